@@ -10,8 +10,9 @@ use Rattle.silt_desk.specs.Traces.{LeadsTo}
 abbrev pub LeadsFrom : Option SeenStore → List RecordedCall → SeenStore → Type 0
 LeadsFrom named calls store = IfSome named (λ first. LeadsTo first calls store)
 
--- what contracts see of a trace that is anchored: the trace, and the log of its calls, unless it was given up
+-- what contracts see of a trace that is anchored: the number of its shard, the trace, and the log of its calls, unless it was given up
 pub record AnchoredState (T : Type 0) : Type 0 where
+  pub shard : ℕ
   pub trace : T
   pub log : Option CallsSeen
 

@@ -25,33 +25,35 @@ AddsEntry step before found after = MatchBool (found == step.old) (after.0 ≡ b
 abbrev pub IsLonger : {E : Type 0} → List E → List E → Type 0
 IsLonger shorter longer = IsPrefix shorter longer × (length shorter < length longer)
 
--- what contracts see of a beginning of a log of calls: which log it is, and the calls
+-- what contracts see of a beginning of a log of calls: the number of its shard, which log it is, and the calls
 pub record CallsSeen : Type 0 where
+  pub shard : ℕ
   pub book : Book
   pub calls : List RecordedCall
 
--- what contracts see of a place in a log of calls: which log it is, the place, and the call there
+-- what contracts see of a place in a log of calls: the number of the log's shard, which log it is, the place, and the call there
 pub record PlaceState : Type 0 where
+  pub shard : ℕ
   pub book : Book
   pub number : ℕ
   pub at : Option RecordedCall
 
--- the place, if there is one, is in the log that is named, and has this call
-abbrev pub PlacesCall : Option Book → RecordedCall → Option PlaceState → Type 0
-PlacesCall named c place = IfSome place (λ p. (Some p.book ≡ named) × (p.at ≡ Some c))
+-- the place, if there is one, is in the log that is named for its shard, and has this call
+abbrev pub PlacesCall : (ℕ → Option Book) → RecordedCall → Option PlaceState → Type 0
+PlacesCall named c place = IfSome place (λ p. (Some p.book ≡ named p.shard) × (p.at ≡ Some c))
 
 -- the call of an event was made for this session, unless it is a flush: that is made for all that wait
 abbrev pub IsMadeFor : ℕ → Event → Caller → Type 0
 IsMadeFor session event.Flush caller = Unit {0}
 IsMadeFor session e caller = caller.session ≡ Some session
 
--- the place, if there is one, is in the log that is named, and has a call of this event with this reply, made for the session
-abbrev pub PlacesEvent : Option Book → ℕ → Event → PlainReply → Option PlaceState → Type 0
+-- the place, if there is one, is in the log that is named for its shard, and has a call of this event with this reply, made for the session
+abbrev pub PlacesEvent : (ℕ → Option Book) → ℕ → Event → PlainReply → Option PlaceState → Type 0
 PlacesEvent named session e reply place =
-    IfSome place (λ p. (Some p.book ≡ named) × ((caller : Caller) × IsMadeFor session e caller × (p.at ≡ Some (call caller e reply))))
+    IfSome place (λ p. (Some p.book ≡ named p.shard) × ((caller : Caller) × IsMadeFor session e caller × (p.at ≡ Some (call caller e reply))))
 
--- the place, if there is one, is in the log that is named, and has a flush with this reply; it is made for all, so for any session
-abbrev pub PlacesFlush : Option Book → PlainReply → Option PlaceState → Type 0
+-- the place, if there is one, is in the log that is named for its shard, and has a flush with this reply; it is made for all, so for any session
+abbrev pub PlacesFlush : (ℕ → Option Book) → PlainReply → Option PlaceState → Type 0
 PlacesFlush named reply place = PlacesEvent named 0 event.Flush reply place
 
 -- no calls are logged

@@ -50,8 +50,8 @@ counted accepted totals = record { calls = totals.calls + 1; accepted = totals.a
 abbrev pub after_call : SeatState → ℕ → SeatState
 after_call seat accepted = record { caller = seat.caller; counts = option_map (counted accepted) seat.counts; last = seat.last }
 
--- the seat after this recorded call: the same one calls from it, it is counted, and the seat has its place in the log that is named, if there is one
-pub record IsSeatedAfter (named : Option Book) (seat : SeatState) (c : RecordedCall) (after : SeatState) : Type 0 where
+-- the seat after this recorded call: the same one calls from it, it is counted, and the seat has its place in the log that is named for its shard, if there is one
+pub record IsSeatedAfter (named : ℕ → Option Book) (seat : SeatState) (c : RecordedCall) (after : SeatState) : Type 0 where
   pub caller : after.caller ≡ seat.caller
   pub counts : after.counts ≡ (after_call seat (accepted_by c.reply)).counts
   pub place : PlacesCall named c after.last

@@ -376,15 +376,15 @@ logs_more None (Some seen) c calls more logged = absurd more
 logs_more (Some before) (Some seen) c calls more logged = more ∙ ap (λ (cs : List RecordedCall). cs ++ c ∷ []) logged
 
 -- a past goes on by one more call
-pub past_more : {T : Type 0} (named : Option SeenStore) (counts : T → ℕ → ℕ → Type 0) (a b : AnchoredState T) (c : RecordedCall) (s t : SeenStore)
-    → ((n m k l : ℕ) → counts a.trace n m → k ≡ n + 1 → l ≡ m + accepted_by c.reply → counts b.trace k l) → LogsCall a.log c b.log → HasPast named counts a s → SeenStep s t c.event c.reply
-    → HasPast named counts b t
-past_more named counts a b c s t law log past step =
+pub past_more : {T : Type 0} (named : ℕ → Option SeenStore) (counts : T → ℕ → ℕ → Type 0) (a b : AnchoredState T) (c : RecordedCall) (s t : SeenStore)
+    → ((n m k l : ℕ) → counts a.trace n m → k ≡ n + 1 → l ≡ m + accepted_by c.reply → counts b.trace k l) → LogsCall a.log c b.log → b.shard ≡ a.shard → HasPast (named a.shard) counts a s
+    → SeenStep s t c.event c.reply → HasPast (named b.shard) counts b t
+past_more named counts a b c s t law log same past step =
     let calls : List RecordedCall = past.calls in
     let longer : length (calls ++ c ∷ []) ≡ length calls + 1 = omega (arith, length-append calls (c ∷ [])) in
     record {
       calls = calls ++ c ∷ [];
-      leads = from_more named calls c s t past.leads step;
+      leads = subst (λ (shard : ℕ). LeadsFrom (named shard) (calls ++ c ∷ []) t) (sym same) (from_more (named a.shard) calls c s t past.leads step);
       counted = law (length calls) (count_accepted calls) (length (calls ++ c ∷ [])) (count_accepted (calls ++ c ∷ [])) past.counted longer (count_accepted_push calls c);
       logged = logs_more a.log b.log c calls log past.logged;
     }

@@ -72,9 +72,10 @@ impl Plain<NotedCall<'_>, RecordedCall, u64> for Append {
     ghost state = { λ c. None };
 }
 
-/// A beginning of a log of calls that was seen. Contracts see which log it is, and the calls.
+/// A beginning of a log of calls that was seen. Contracts see the number of its shard, which log it is, and the calls.
 #[derive(Drop)]
 pub struct CallView {
+    shard: u64,
     count: u64,
     seen: Seen<RecordedCall, u64, IsLength>,
 }
@@ -85,12 +86,19 @@ impl Model for CallView {
 
     ghost Value = { CallsSeen };
 
-    ghost view = { λ v. record { book = v.seen.book; calls = v.seen.log } };
+    ghost view = { λ v. record { shard = v.shard; book = v.seen.book; calls = v.seen.log } };
 
     ghost invariant = { λ v. v.count ≡ length v.seen.log };
 }
 
 impl CallView {
+    /// The number of the shard whose calls they are.
+    pub fn shard(&self) -> u64
+        ensures { result ≡ self.now.shard }
+    {
+        self.shard
+    }
+
     /// How many calls it has.
     pub fn len(&self) -> u64
         ensures { result ≡ length self.now.calls }
@@ -103,6 +111,7 @@ impl CallView {
         ensures { result ≡ self.now }
     {
         CallView {
+            shard: self.shard,
             count: self.count,
             seen: self.seen.again(),
         }
@@ -115,6 +124,7 @@ impl CallView {
         ensures calls { MatchBool result (self.new.calls ≡ self.old.calls ++ call noted.now.caller
             (noted_event noted.now.note noted.now.value.now noted.now.second.now) (reply_of noted.now.note noted.now.value.now) ∷ []) (Unit {0}) }
         ensures book { self.new.book ≡ self.old.book }
+        ensures shard { self.new.shard ≡ self.old.shard }
     {
         let mut offer: Offer<RecordedCall, u64, IsLength, GivesNothing> = self
             .seen
@@ -168,15 +178,27 @@ impl Model for CallLog {
 }
 
 impl CallLog {
-    /// A log of no calls.
-    pub fn new() -> CallLog
-        ensures { result.calls ≡ [] }
+    /// A log of no calls, for the shard of this number. A single store has number 0.
+    pub fn new(shard: u64) -> CallLog
+        ensures calls { result.calls ≡ [] }
+        ensures shard { result.shard ≡ shard }
     {
         let (seen, mut first, _second) = Seen::open(Start::alone(), 0, 0);
         CallLog {
             head: Word::tracked(0, &mut first),
-            view: CallView { count: 0, seen },
+            view: CallView {
+                shard,
+                count: 0,
+                seen,
+            },
         }
+    }
+
+    /// The number of its shard.
+    pub(crate) fn shard(&self) -> u64
+        ensures { result ≡ self.now.shard }
+    {
+        self.view.shard()
     }
 
     /// What was seen of it.
@@ -191,6 +213,7 @@ impl CallLog {
         ensures calls { MatchBool result (self.new.calls ≡ self.old.calls ++ call noted.now.caller
             (noted_event noted.now.note noted.now.value.now noted.now.second.now) (reply_of noted.now.note noted.now.value.now) ∷ []) (Unit {0}) }
         ensures book { self.new.book ≡ self.old.book }
+        ensures shard { self.new.shard ≡ self.old.shard }
     {
         self.view.len() < MOST_CALLS && self.view.append(&self.head, noted)
     }
@@ -209,7 +232,7 @@ impl Model for CallPlace {
 
     ghost Value = { PlaceState };
 
-    ghost view = { λ p. record { book = p.view.book; number = p.number; at = slice_get p.view.calls p.number } };
+    ghost view = { λ p. record { shard = p.view.shard; book = p.view.book; number = p.number; at = slice_get p.view.calls p.number } };
 
     ghost invariant = { λ p. p.number < length p.view.calls };
 }
@@ -217,7 +240,7 @@ impl Model for CallPlace {
 impl CallPlace {
     /// The place of the last call that was seen. None if there are no calls.
     pub fn last(view: CallView) -> Option<CallPlace>
-        ensures { IfSome result (λ place. (place.book ≡ view.book) × ((before : List Recorded) (c : Recorded) → view.calls ≡ before ++ c ∷ [] → place.at ≡ Some c)) }
+        ensures { IfSome result (λ place. (place.book ≡ view.book) × (place.shard ≡ view.shard) × ((before : List Recorded) (c : Recorded) → view.calls ≡ before ++ c ∷ [] → place.at ≡ Some c)) }
     {
         if view.count == 0 {
             return None;
@@ -236,6 +259,13 @@ impl CallPlace {
             number: self.number,
             view: self.view.again(),
         }
+    }
+
+    /// The number of the shard whose call it is.
+    pub fn shard(&self) -> u64
+        ensures { result ≡ self.now.shard }
+    {
+        self.view.shard()
     }
 
     /// The number of the place.
@@ -257,6 +287,7 @@ impl CallPlace {
     pub fn seen_with(&self, view: &CallView) -> CallView
         requires { view.now.book ≡ self.now.book }
         ensures book { result.book ≡ view.now.book }
+        ensures shard { view.now.shard ≡ self.now.shard → result.shard ≡ view.now.shard }
         ensures begins { IsPrefix view.now.calls result.calls }
     {
         self.view.longer(view)

@@ -42,7 +42,7 @@ impl Trace for Count {
 
     ghost fits = { λ capacity len. Unit {0} };
 
-    ghost log = { None };
+    ghost log = { λ shard. None };
 
     ghost logs = { λ t calls. ⊥ };
 

@@ -107,7 +107,7 @@ impl Trace for Kept {
 
     ghost fits = { λ capacity len. len ≤ capacity };
 
-    ghost log = { None };
+    ghost log = { λ shard. None };
 
     ghost logs = { λ t calls. ⊥ };
 

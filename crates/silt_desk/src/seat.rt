@@ -128,7 +128,7 @@ impl<N: DeskId> Seat<N> {
     pub(crate) fn note_last(&mut self, view: Option<CallView>)
         ensures caller { self.new.caller ≡ self.old.caller }
         ensures counts { self.new.counts ≡ self.old.counts }
-        ensures last { IfSome self.new.last (λ place. IfSome view (λ seen. (place.book ≡ seen.book) × ((before : List Recorded) (c : Recorded) → seen.calls ≡ before ++ c ∷ [] → place.at ≡ Some c))) }
+        ensures last { IfSome self.new.last (λ place. IfSome view (λ seen. (place.book ≡ seen.book) × (place.shard ≡ seen.shard) × ((before : List Recorded) (c : Recorded) → seen.calls ≡ before ++ c ∷ [] → place.at ≡ Some c))) }
         ensures none { view ≡ None → self.new.last ≡ None }
     {
         self.last = match view {

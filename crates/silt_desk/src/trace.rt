@@ -48,8 +48,8 @@ pub trait Trace: Drop {
     /// A buffer of this capacity has room for a value of this length.
     ghost fits: { ℕ → ℕ → Type 0 };
 
-    /// The log to which it adds each call, if it keeps one.
-    ghost log: { Option Book };
+    /// The log to which the trace of each shard adds its calls, if it keeps one.
+    ghost log: { ℕ → Option Book };
 
     /// These are the calls of its log.
     ghost logs: { Self → List Recorded → Type 0 };
@@ -73,7 +73,7 @@ pub trait Trace: Drop {
 
     /// The calls of its log. None only if it logs no calls.
     fn view(&self) -> Option<CallView>
-        ensures { MatchOption result (LogsNone (logs self.now)) (λ view. (Some view.book ≡ log) × logs self.now view.calls) };
+        ensures { MatchOption result (LogsNone (logs self.now)) (λ view. (Some view.book ≡ log view.shard) × logs self.now view.calls) };
 
     ghost agrees_after: { (a b : Self) (c : Recorded) (s t : SeenStore) → agrees a s → extends a c b → SeenStep s t c.event c.reply → agrees b t };
 
