@@ -44,10 +44,10 @@ use Rattle.silt_session.specs.declared.job.Request.TheVariants.{Put, Delete, Swa
 module _ {T : Type 0} (trace : TraceOf T) (state : T) where
   -- what a trace shows of its log, if it logs calls
   abbrev Shows : Option CallsSeen → Type 0
-  Shows view = MatchOption view (LogsNone (trace.logs state)) (λ seen. (Some seen.book ≡ trace.log) × trace.logs state seen.calls)
+  Shows view = MatchOption view (LogsNone (trace.logs state)) (λ seen. (Some seen.book ≡ trace.log seen.shard) × trace.logs state seen.calls)
 
   -- it is of the log
-  pub view_named : (view : Option CallsSeen) → Shows view → IfSome view (λ seen. Some seen.book ≡ trace.log)
+  pub view_named : (view : Option CallsSeen) → Shows view → IfSome view (λ seen. Some seen.book ≡ trace.log seen.shard)
   view_named None shows = tt
   view_named (Some seen) shows = shows.0
 
@@ -119,13 +119,14 @@ goes_both (Some calls) (Some more) (Some most) first second =
     (first.0 ++ second.0, sym (append_assoc calls first.0 second.0) ∙ ap (λ (l : List RecordedCall). l ++ second.0) first.1 ∙ second.1)
 
 pub more_none : (told : ToldState) → IsToldMore told told
-more_none told = record { session = refl; from = refl; next = omega arith; calls = goes_none told.calls }
+more_none told = record { session = refl; from = refl; next = omega arith; shard = refl; calls = goes_none told.calls }
 
 pub more_both : (a b c : ToldState) → IsToldMore a b → IsToldMore b c → IsToldMore a c
 more_both a b c first second = record {
   session = second.session ∙ first.session;
   from = second.from ∙ first.from;
   next = omega (arith, first.next, second.next);
+  shard = second.shard ∙ first.shard;
   calls = goes_both a.calls b.calls c.calls first.calls second.calls;
 }
 
@@ -139,6 +140,7 @@ asked_more a b c asks more = record {
   session = more.session ∙ asks.session;
   from = asked_from a.calls b.from c.from more.from asks.from;
   next = omega (arith, asks.next, more.from, more.next);
+  shard = more.shard ∙ asks.shard;
   calls = goes_both a.calls b.calls c.calls asks.calls more.calls;
 }
 
@@ -156,6 +158,7 @@ more_passed old new passed = record {
   session = ap (λ (s : ToldState). s.session) passed.same;
   from = ap (λ (s : ToldState). s.from) passed.same;
   next = passed.next;
+  shard = ap (λ (s : ToldState). s.shard) passed.same;
   calls = subst (λ (s : ToldState). ExtendsCalls old.calls s.calls) (sym passed.same) (goes_none old.calls);
 }
 
@@ -329,7 +332,7 @@ made_for session caller is event.Convert = is
 made_for session caller is event.Merge = is
 
 -- what a place is known by
-places_event : (named : Option Book) (session : ℕ) (caller : Caller) (e : Event) (r : PlainReply) (place : Option PlaceState) → IsMadeFor session e caller
+places_event : (named : ℕ → Option Book) (session : ℕ) (caller : Caller) (e : Event) (r : PlainReply) (place : Option PlaceState) → IsMadeFor session e caller
     → PlacesCall named (call caller e r) place → PlacesEvent named session e r place
 places_event named session caller e r None made places = tt
 places_event named session caller e r (Some place) made places = (places.0, (caller, made, places.1))
@@ -437,7 +440,7 @@ module _ {D F T : Type 0} (facts : Ghosts D F) (trace : TraceOf T) where
 -- ---- the reply of a task
 
 -- the reply that is due to a command speaks of its call and of the flush
-changed_tells : (named : Option Book) (session : ℕ) (e : Event) (answer : Answer) (flushed : Flushed) (call flush : Option PlaceState)
+changed_tells : (named : ℕ → Option Book) (session : ℕ) (e : Event) (answer : Answer) (flushed : Flushed) (call flush : Option PlaceState)
     → ((refusal : Refusal (Unit {0})) → PlacesEvent named session e (Refused refusal) call → TellsAt named session e (Refused refusal) call flush)
     → PlacesEvent named session e (swap_reply answer) call → PlacesFlush named (acknowledged flushed) flush → TellsAt named session e (changed answer flushed) call flush
 changed_tells named session e (Err refusal) flushed call flush refused at behind = refused refusal at
@@ -450,12 +453,12 @@ changed_tells named session e (Ok (Some n)) (Ok m) call flush refused at behind 
     go (nat_le n m) refl
 changed_tells named session e (Ok (Some n)) (Err refusal) call flush refused at behind = at
 
-flush_tells : (named : Option Book) (session : ℕ) (flushed : Flushed) (call flush : Option PlaceState) → PlacesFlush named (acknowledged flushed) flush
+flush_tells : (named : ℕ → Option Book) (session : ℕ) (flushed : Flushed) (call flush : Option PlaceState) → PlacesFlush named (acknowledged flushed) flush
     → TellsAt named session event.Flush (acknowledged flushed) call flush
 flush_tells named session (Ok m) call flush behind = behind
 flush_tells named session (Err refusal) call flush behind = behind
 
-module _ (named : Option Book) (session : ℕ) (flushed : Flushed) (reply : PlainReply) (call flush : Option PlaceState) (behind : PlacesFlush named (acknowledged flushed) flush) where
+module _ (named : ℕ → Option Book) (session : ℕ) (flushed : Flushed) (reply : PlainReply) (call flush : Option PlaceState) (behind : PlacesFlush named (acknowledged flushed) flush) where
   its_reply : (e : Event) (due : PlainReply) → Some due ≡ Some reply → TellsAt named session e due call flush → TellsAt named session e reply call flush
   its_reply e due is tells = let same : due ≡ reply = cc in subst (λ (r : PlainReply). TellsAt named session e r call flush) same tells
 
@@ -479,11 +482,11 @@ module _ (named : Option Book) (session : ℕ) (flushed : Flushed) (reply : Plai
   due_tells (Swap key old new) (Some answer) due at =
       its_reply (event.Swap key old new) (changed answer flushed) due (changed_tells named session (event.Swap key old new) answer flushed call flush (λ refusal is. is) at behind)
 
-named_place : (named : Option Book) (session : ℕ) (e : Event) (r : PlainReply) (place : Option PlaceState) → PlacesEvent named session e r place → IsInLog named place
+named_place : (named : ℕ → Option Book) (session : ℕ) (e : Event) (r : PlainReply) (place : Option PlaceState) → PlacesEvent named session e r place → IsInLog named place
 named_place named session e r None places = tt
 named_place named session e r (Some place) places = places.0
 
-named_call : (named : Option Book) (session : ℕ) (request : Request) (answer : Option Answer) (place : Option PlaceState) → CallsAt named session request answer place → IsInLog named place
+named_call : (named : ℕ → Option Book) (session : ℕ) (request : Request) (answer : Option Answer) (place : Option PlaceState) → CallsAt named session request answer place → IsInLog named place
 named_call named session request None place at = subst (λ (p : Option PlaceState). IsInLog named p) (sym at) tt
 named_call named session request (Some answer) place at = named_place named session (asked_event request) (swap_reply answer) place at
 

@@ -17,11 +17,12 @@ use Rattle.silt_session.specs.Requests.{Answer, asked_event}
 use Rattle.silt_session.specs.declared.job.Request.{Request}
 
 -- the number of a session, the first place at which a call of its present events can stand, the first one for the next command among them,
--- and a beginning of the desk's calls, if its trace has a log
+-- the number of the desk's shard and a beginning of its calls, if its trace has a log
 pub record ToldState : Type 0 where
   pub session : ℕ
   pub from : ℕ
   pub next : ℕ
+  pub shard : Option ℕ
   pub calls : Option (List RecordedCall)
 
 -- all calls are told that a trace logs, or it logs none
@@ -30,14 +31,14 @@ pub record TellsAll {T : Type 0} (trace : TraceOf T) (state : T) (told : ToldSta
   pub next : told.next ≡ 0
   pub calls : MatchOption told.calls (LogsNone (trace.logs state)) (trace.logs state)
 
--- the place, if there is one, is in the log that is named
-abbrev pub IsInLog : Option Book → Option PlaceState → Type 0
-IsInLog named place = IfSome place (λ p. Some p.book ≡ named)
+-- the place, if there is one, is in the log that is named for its shard
+abbrev pub IsInLog : (ℕ → Option Book) → Option PlaceState → Type 0
+IsInLog named place = IfSome place (λ p. Some p.book ≡ named p.shard)
 
 -- ---- a request, and its call
 
 -- a result is recorded with its call, which was made for the session, and no other place is known
-abbrev pub CallsAt : Option Book → ℕ → Request → Option Answer → Option PlaceState → Type 0
+abbrev pub CallsAt : (ℕ → Option Book) → ℕ → Request → Option Answer → Option PlaceState → Type 0
 CallsAt named session request None place = place ≡ None
 CallsAt named session request (Some answer) place = PlacesEvent named session (asked_event request) (swap_reply answer) place
 
@@ -54,7 +55,7 @@ answer_place (Some answer) last = reply_place (swap_reply answer) last
 
 -- The places have what this reply to an event of a session says: an accepted command, and behind it a flush that acknowledged it; a command
 -- that no flush settled; a flush; a swap that differs; a refusal.
-abbrev pub TellsAt : Option Book → ℕ → Event → PlainReply → Option PlaceState → Option PlaceState → Type 0
+abbrev pub TellsAt : (ℕ → Option Book) → ℕ → Event → PlainReply → Option PlaceState → Option PlaceState → Type 0
 TellsAt named session e (Accepted n) call flush = PlacesEvent named session e (Accepted n) call × ((m : ℕ) × (n ≤ m) × PlacesFlush named (Acknowledged m) flush)
 TellsAt named session e (Unsettled n) call flush = PlacesEvent named session e (Accepted n) call
 TellsAt named session e Differs call flush = PlacesEvent named session e Differs call
@@ -150,6 +151,7 @@ pub record IsToldMore (old new : ToldState) : Type 0 where
   pub session : new.session ≡ old.session
   pub from : new.from ≡ old.from
   pub next : old.next ≤ new.next
+  pub shard : new.shard ≡ old.shard
   pub calls : ExtendsCalls old.calls new.calls
 
 -- events of the session are asked now: a call of theirs stands behind all that was told
@@ -157,4 +159,5 @@ pub record AsksBehind (old new : ToldState) : Type 0 where
   pub session : new.session ≡ old.session
   pub from : IfSome old.calls (λ calls. new.from ≡ length calls)
   pub next : new.from ≤ new.next
+  pub shard : new.shard ≡ old.shard
   pub calls : ExtendsCalls old.calls new.calls

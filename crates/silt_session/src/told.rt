@@ -6,7 +6,7 @@ use silt_desk::{CallPlace, CallView, Trace};
 use std::marker::{Model, PhantomData};
 
 /// The number of a session, a beginning of the calls at a desk, if its trace has a log, the first place at which a call of the session's
-/// present events can stand, and the first one for the next command among them. Its type says that it is of the trace's log.
+/// present events can stand, and the first one for the next command among them. Its type says that it is of the log of the desk's shard.
 #[derive(Drop)]
 pub struct Told<T: Trace> {
     session: u64,
@@ -23,9 +23,9 @@ impl<T: Trace> Model for Told<T> {
 
     ghost Value = { ToldState };
 
-    ghost view = { λ t. record { session = t.session; from = t.from; next = t.next; calls = option_map (λ seen. seen.calls) t.view } };
+    ghost view = { λ t. record { session = t.session; from = t.from; next = t.next; shard = option_map (λ seen. seen.shard) t.view; calls = option_map (λ seen. seen.calls) t.view } };
 
-    ghost invariant = { λ t. IfSome t.view (λ seen. Some seen.book ≡ T.log) × (t.from ≤ t.next) };
+    ghost invariant = { λ t. IfSome t.view (λ seen. Some seen.book ≡ T.log seen.shard) × (t.from ≤ t.next) };
 }
 
 impl<T: Trace> Told<T> {
@@ -94,14 +94,16 @@ impl<T: Trace> Told<T> {
         }
     }
 
-    /// Adds all calls up to this place.
+    /// Adds all calls up to this place, if it is of the same shard.
     pub(crate) fn learn(&mut self, place: &Option<CallPlace>)
         requires { IsInLog T.log place.now }
         ensures told { IsToldMore self.old self.new }
         ensures next { self.new.next ≡ self.old.next }
     {
         if let (Some(view), Some(place)) = (&self.view, place) {
-            self.view = Some(place.seen_with(view));
+            if place.shard() == view.shard() {
+                self.view = Some(place.seen_with(view));
+            }
         }
     }
 
@@ -113,12 +115,14 @@ impl<T: Trace> Told<T> {
     {
         match (&self.view, place) {
             (None, _) => true,
-            (Some(view), Some(place)) => first <= place.number() && place.is_in(view),
-            (Some(_), None) => false,
+            (Some(view), Some(place)) if place.shard() == view.shard() => {
+                first <= place.number() && place.is_in(view)
+            }
+            (Some(_), _) => false,
         }
     }
 
-    /// Whether the place is one of what was told, and none before the present events.
+    /// Whether the place is one of what was told, so of the same shard, and none before the present events.
     pub(crate) fn has(&self, place: &Option<CallPlace>) -> bool
         requires { IsInLog T.log place.now }
         ensures place { result ≡ true → IfSome self.now.calls (λ calls. MatchOption place.now ⊥ (λ p. (self.now.from ≤ p.number) × (slice_get calls p.number ≡ p.at))) }

@@ -9,7 +9,8 @@ returns-clause-past g c =
     let store = seen g.D.Disk c.args.core.now in
     record {
       calls = [];
-      leads = subst (λ named. LeadsFrom named [] store) (sym (ap g.N.Anchor.first c.shard.ensures ∙ c.requires.first)) (leads_none store c.standing-known.ensures.has_map c.standing-known.ensures.few c.standing-known.ensures.begun);
+      leads = subst (λ named. LeadsFrom named [] store) (sym (ap g.N.Anchor.first c.shard.ensures ∙ c.requires.first))
+          (leads_none store c.standing-known.ensures.has_map c.standing-known.ensures.few c.standing-known.ensures.begun);
       counted = c.requires.trace.1;
       logged = c.requires.log.1;
     }
