@@ -194,7 +194,8 @@ impl<D: Disk, T: Trace, N: DeskId + InboxId + LogId, R: Wait> Session<'_, D, T, 
     fn take_here(&self, pipeline: &mut Pipeline<D, T>, event: &Event) -> Result<(), Unanswered>
         requires event { IsNoRequest event.now }
         requires room { HasRoom pipeline.old 1 }
-        ensures answers { OnOk result ((events : List EventOf) → AnswersSoFar D.Disk self.now.settles_gets T.Trace events pipeline.old → AnswersSoFar D.Disk self.now.settles_gets T.Trace (events ++ event.now ∷ []) pipeline.new) }
+        ensures answers { OnOk result ((events : List EventOf) → AnswersSoFar D.Disk self.now.settles_gets T.Trace events pipeline.old
+            → AnswersSoFar D.Disk self.now.settles_gets T.Trace (events ++ event.now ∷ []) pipeline.new) }
         ensures room { OnOk result ((n : ℕ) → HasRoom pipeline.old (n + 1) → HasRoom pipeline.new n) }
         ensures told { OnOk result (IsToldMore pipeline.old.told pipeline.new.told) }
     {
@@ -206,7 +207,8 @@ impl<D: Disk, T: Trace, N: DeskId + InboxId + LogId, R: Wait> Session<'_, D, T, 
     // Takes one more event. A request waits for the writer.
     fn take(&self, pipeline: &mut Pipeline<D, T>, event: Event) -> Result<(), Unanswered>
         requires { HasRoom pipeline.old 1 }
-        ensures answers { OnOk result ((events : List EventOf) → AnswersSoFar D.Disk self.now.settles_gets T.Trace events pipeline.old → AnswersSoFar D.Disk self.now.settles_gets T.Trace (events ++ event ∷ []) pipeline.new) }
+        ensures answers { OnOk result ((events : List EventOf) → AnswersSoFar D.Disk self.now.settles_gets T.Trace events pipeline.old
+            → AnswersSoFar D.Disk self.now.settles_gets T.Trace (events ++ event ∷ []) pipeline.new) }
         ensures room { OnOk result ((n : ℕ) → HasRoom pipeline.old (n + 1) → HasRoom pipeline.new n) }
         ensures told { OnOk result (IsToldMore pipeline.old.told pipeline.new.told) }
     {

@@ -1,6 +1,7 @@
 // A batch of jobs: the tasks of each are done, then all is flushed once, and then each task has its reply.
 ghost use Rattle.std.specs.Prelude.{◌≡◌, ◌≢◌, ◌≤◌, [], true, false, length, IfSome, IsSomeAnd, List, vec_capacity, vec_len};
-ghost use Rattle.silt_session.specs.Batches.{EndsRound, IsBatch, IsDueAt, KeepsLeft, MayMakeRoom, PerformsAll, PerformsRequest, PerformsTask, ServesBatch, StepsThrough, TriesAgain, TriesOnce, done_in, left_in, writer_at};
+ghost use Rattle.silt_session.specs.Batches.{EndsRound, IsBatch, IsDueAt, KeepsLeft, MayMakeRoom, PerformsAll, PerformsRequest};
+ghost use Rattle.silt_session.specs.Batches.{PerformsTask, ServesBatch, StepsThrough, TriesAgain, TriesOnce, done_in, left_in, writer_at};
 ghost use Rattle.silt_session.specs.Origins.{Flushes, Performs};
 ghost use Rattle.silt_session.specs.Requests.{acknowledged, compared};
 ghost use Rattle.silt_session.specs.Tolds.{reply_place, answer_place};
@@ -277,7 +278,8 @@ impl<D: Disk, T: Trace, N: DeskId + LogId, G: Gate, H: HearsRoom, R: Wait + Cloc
         tasks: &mut Vec<Task<D, T>>,
     )
         requires { IsBatch batch.old }
-        ensures steps { StepsThrough (PerformsTask D.Disk T.Trace self.now.room.now.seconds (H.has_ended self.now.room.now.heard)) (writer_at seat.old batch.old) tasks.old.items tasks.new.items (writer_at seat.new batch.new) }
+        ensures steps { StepsThrough (PerformsTask D.Disk T.Trace self.now.room.now.seconds (H.has_ended self.now.room.now.heard)) (writer_at seat.old batch.old)
+            tasks.old.items tasks.new.items (writer_at seat.new batch.new) }
         ensures left { KeepsLeft batch.old batch.new }
     {
         for task in tasks.iter_mut() {
@@ -296,7 +298,8 @@ impl<D: Disk, T: Trace, N: DeskId + LogId, G: Gate, H: HearsRoom, R: Wait + Cloc
         tasks: &mut Tasks<D, T, N>,
     )
         requires { IsBatch batch.old }
-        ensures steps { StepsThrough (PerformsTask D.Disk T.Trace self.now.room.now.seconds (H.has_ended self.now.room.now.heard)) (writer_at seat.old batch.old) tasks.old.items tasks.new.items (writer_at seat.new batch.new) }
+        ensures steps { StepsThrough (PerformsTask D.Disk T.Trace self.now.room.now.seconds (H.has_ended self.now.room.now.heard)) (writer_at seat.old batch.old)
+            tasks.old.items tasks.new.items (writer_at seat.new batch.new) }
         ensures left { KeepsLeft batch.old batch.new }
         ensures ticket { tasks.new.ticket ≡ tasks.old.ticket }
     {
@@ -307,7 +310,8 @@ impl<D: Disk, T: Trace, N: DeskId + LogId, G: Gate, H: HearsRoom, R: Wait + Cloc
     fn perform_all(&self, seat: &mut Seat<N>, batch: &mut Batch<D, T, N>)
         requires within { IsBatch batch.old }
         requires room { vec_len batch.old.jobs ≤ vec_capacity batch.old.jobs }
-        ensures steps { (done : List (JobOf D T N D.Fault)) × PerformsAll D.Disk T.Trace self.now.room.now.seconds (H.has_ended self.now.room.now.heard) (writer_at seat.old batch.old) (left_in batch.old) done (writer_at seat.new batch.new) }
+        ensures steps { (done : List (JobOf D T N D.Fault)) × PerformsAll D.Disk T.Trace self.now.room.now.seconds (H.has_ended self.now.room.now.heard)
+            (writer_at seat.old batch.old) (left_in batch.old) done (writer_at seat.new batch.new) }
         ensures none { batch.new.left ≡ 0 }
     {
         while let Some(mut job) = batch.next() {

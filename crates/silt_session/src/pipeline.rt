@@ -259,7 +259,8 @@ impl<D: Disk, T: Trace> Pipeline<D, T> {
     // Moves each place to the replies, by the tasks that came back. The last of them is a flush's if there is one.
     fn fill(&mut self, tasks: Vec<Task<D, T>>, has_flush: bool) -> Result<(), Unanswered>
         requires { vec_len self.old.replies + deque_len self.old.places ≤ vec_capacity self.old.replies }
-        ensures replies { OnOk result ((given : List PlainReply) × (self.new.replies.items ≡ self.old.replies.items ++ given) × FillsAll D.Disk T.Trace self.old.told has_flush self.old.told.next tasks.items self.old.places.items given self.new.told.next) }
+        ensures replies { OnOk result ((given : List PlainReply) × (self.new.replies.items ≡ self.old.replies.items ++ given)
+            × FillsAll D.Disk T.Trace self.old.told has_flush self.old.told.next tasks.items self.old.places.items given self.new.told.next) }
         ensures moved { OnOk result (MovesPlaces self.old self.new) }
     {
         let mut tasks = VecDeque::from(tasks);
@@ -279,7 +280,8 @@ impl<D: Disk, T: Trace> Pipeline<D, T> {
         flushed: &Option<Reply<()>>,
     ) -> Result<(), Unanswered>
         requires { vec_len self.old.replies + deque_len self.old.places ≤ vec_capacity self.old.replies }
-        ensures replies { OnOk result ((given : List PlainReply) × (self.new.replies.items ≡ self.old.replies.items ++ given) × Fills D.Disk T.Trace self.old.told flushed.now self.old.told.next tasks.items self.old.places.items given self.new.told.next []) }
+        ensures replies { OnOk result ((given : List PlainReply) × (self.new.replies.items ≡ self.old.replies.items ++ given)
+            × Fills D.Disk T.Trace self.old.told flushed.now self.old.told.next tasks.items self.old.places.items given self.new.told.next []) }
         ensures moved { OnOk result (MovesPlaces self.old self.new) }
     {
         let mut tasks = tasks;

@@ -23,7 +23,13 @@ impl<T: Trace> Model for Told<T> {
 
     ghost Value = { ToldState };
 
-    ghost view = { λ t. record { session = t.session; from = t.from; next = t.next; shard = option_map (λ seen. seen.shard) t.view; calls = option_map (λ seen. seen.calls) t.view } };
+    ghost view = { λ t. record {
+      session = t.session;
+      from = t.from;
+      next = t.next;
+      shard = option_map (λ seen. seen.shard) t.view;
+      calls = option_map (λ seen. seen.calls) t.view;
+    } };
 
     ghost invariant = { λ t. IfSome t.view (λ seen. Some seen.book ≡ T.log seen.shard) × (t.from ≤ t.next) };
 }

@@ -73,7 +73,8 @@ impl<
     ) -> (Seat<N>, Taker<N>)
         ensures number { result.0.caller.seat ≡ seat.caller.seat }
         ensures ended { I.has_ended inbox.now }
-        ensures batches { (batches : List (List (JobOf D T N D.Fault))) × ServesBatches D.Disk T.Trace self.now.room.now.seconds (H.has_ended self.now.room.now.heard) seat taker batches result.0 result.1 }
+        ensures batches { (batches : List (List (JobOf D T N D.Fault))) × ServesBatches D.Disk T.Trace self.now.room.now.seconds
+            (H.has_ended self.now.room.now.heard) seat taker batches result.0 result.1 }
     {
         for _ in self.rt.forever() {
             let Some(jobs) = inbox.take_all(self.rt, &mut taker) else {
