@@ -51,148 +51,44 @@ progress_plain (Err refusal) = refl
 -- if a map gives a reply, it gives the same reply without the fault
 step_plain : {F : Type 0} (m : Map) (event : Event) (reply : Reply F) (to : Map) → Step m event reply to → Step m event (plain reply) to
 step_plain m (Put key value) (Accepted n) to step = step
-step_plain m (Put key value) (Acknowledged n) to step = absurd step
-step_plain m (Put key value) (Found v) to step = absurd step
-step_plain m (Put key value) Absent to step = absurd step
-step_plain m (Put key value) Differs to step = absurd step
-step_plain m (Put key value) (Progress progress) to step = absurd step
-step_plain m (Put key value) (Refused refusal) to step = step
-step_plain m (Put key value) (Unsettled n) to step = absurd step
-step_plain m (Put key value) NotServed to step = absurd step
+step_plain m (Put key value) reply to step = step
 step_plain m (Delete key) (Accepted n) to step = step
-step_plain m (Delete key) (Acknowledged n) to step = absurd step
-step_plain m (Delete key) (Found v) to step = absurd step
-step_plain m (Delete key) Absent to step = absurd step
-step_plain m (Delete key) Differs to step = absurd step
-step_plain m (Delete key) (Progress progress) to step = absurd step
-step_plain m (Delete key) (Refused refusal) to step = step
-step_plain m (Delete key) (Unsettled n) to step = absurd step
-step_plain m (Delete key) NotServed to step = absurd step
+step_plain m (Delete key) reply to step = step
 step_plain m (Swap key old new) (Accepted n) to step = step
-step_plain m (Swap key old new) (Acknowledged n) to step = absurd step
-step_plain m (Swap key old new) (Found v) to step = absurd step
-step_plain m (Swap key old new) Absent to step = absurd step
-step_plain m (Swap key old new) Differs to step = step
-step_plain m (Swap key old new) (Progress progress) to step = absurd step
-step_plain m (Swap key old new) (Refused refusal) to step = step
-step_plain m (Swap key old new) (Unsettled n) to step = absurd step
-step_plain m (Swap key old new) NotServed to step = absurd step
-step_plain m Flush (Accepted n) to step = absurd step
-step_plain m Flush (Acknowledged n) to step = step
-step_plain m Flush (Found v) to step = absurd step
-step_plain m Flush Absent to step = absurd step
-step_plain m Flush Differs to step = absurd step
-step_plain m Flush (Progress progress) to step = absurd step
-step_plain m Flush (Refused refusal) to step = step
-step_plain m Flush (Unsettled n) to step = absurd step
-step_plain m Flush NotServed to step = absurd step
-step_plain m (Get key) (Accepted n) to step = absurd step
-step_plain m (Get key) (Acknowledged n) to step = absurd step
-step_plain m (Get key) (Found v) to step = step
-step_plain m (Get key) Absent to step = step
-step_plain m (Get key) Differs to step = absurd step
-step_plain m (Get key) (Progress progress) to step = absurd step
-step_plain m (Get key) (Refused refusal) to step = step
-step_plain m (Get key) (Unsettled n) to step = absurd step
-step_plain m (Get key) NotServed to step = absurd step
-step_plain m Convert (Accepted n) to step = absurd step
-step_plain m Convert (Acknowledged n) to step = absurd step
-step_plain m Convert (Found v) to step = absurd step
-step_plain m Convert Absent to step = absurd step
-step_plain m Convert Differs to step = absurd step
-step_plain m Convert (Progress progress) to step = step
-step_plain m Convert (Refused refusal) to step = step
-step_plain m Convert (Unsettled n) to step = absurd step
-step_plain m Convert NotServed to step = absurd step
-step_plain m Merge (Accepted n) to step = absurd step
-step_plain m Merge (Acknowledged n) to step = absurd step
-step_plain m Merge (Found v) to step = absurd step
-step_plain m Merge Absent to step = absurd step
-step_plain m Merge Differs to step = absurd step
-step_plain m Merge (Progress progress) to step = step
-step_plain m Merge (Refused refusal) to step = step
-step_plain m Merge (Unsettled n) to step = absurd step
-step_plain m Merge NotServed to step = absurd step
+step_plain m (Swap key old new) reply to step = step
+step_plain m Flush (Accepted n) to step = step
+step_plain m Flush reply to step = step
+step_plain m (Get key) (Accepted n) to step = step
+step_plain m (Get key) reply to step = step
+step_plain m Convert (Accepted n) to step = step
+step_plain m Convert reply to step = step
+step_plain m Merge (Accepted n) to step = step
+step_plain m Merge reply to step = step
 
 counts_plain : {F : Type 0} (old new : ℕ) (reply : Reply F) → Counts old reply new → Counts old (plain reply) new
 counts_plain old new (Accepted n) counts = counts
-counts_plain old new (Acknowledged n) counts = counts
-counts_plain old new (Found v) counts = counts
-counts_plain old new Absent counts = counts
-counts_plain old new Differs counts = counts
-counts_plain old new (Progress progress) counts = counts
-counts_plain old new (Refused refusal) counts = counts
-counts_plain old new (Unsettled n) counts = counts
-counts_plain old new NotServed counts = counts
+counts_plain old new reply counts = counts
 
 -- a reply adds the same commands without its fault
 adds_plain : {F : Type 0} (event : Event) (reply : Reply F) → accepted_command event (plain reply) ≡ accepted_command event reply
 adds_plain (Put key value) (Accepted n) = refl
-adds_plain (Put key value) (Acknowledged n) = refl
-adds_plain (Put key value) (Found v) = refl
-adds_plain (Put key value) Absent = refl
-adds_plain (Put key value) Differs = refl
-adds_plain (Put key value) (Progress progress) = refl
-adds_plain (Put key value) (Refused refusal) = refl
-adds_plain (Put key value) (Unsettled n) = refl
-adds_plain (Put key value) NotServed = refl
+adds_plain (Put key value) reply = refl
 adds_plain (Delete key) (Accepted n) = refl
-adds_plain (Delete key) (Acknowledged n) = refl
-adds_plain (Delete key) (Found v) = refl
-adds_plain (Delete key) Absent = refl
-adds_plain (Delete key) Differs = refl
-adds_plain (Delete key) (Progress progress) = refl
-adds_plain (Delete key) (Refused refusal) = refl
-adds_plain (Delete key) (Unsettled n) = refl
-adds_plain (Delete key) NotServed = refl
+adds_plain (Delete key) reply = refl
 adds_plain (Swap key old new) (Accepted n) = refl
-adds_plain (Swap key old new) (Acknowledged n) = refl
-adds_plain (Swap key old new) (Found v) = refl
-adds_plain (Swap key old new) Absent = refl
-adds_plain (Swap key old new) Differs = refl
-adds_plain (Swap key old new) (Progress progress) = refl
-adds_plain (Swap key old new) (Refused refusal) = refl
-adds_plain (Swap key old new) (Unsettled n) = refl
-adds_plain (Swap key old new) NotServed = refl
-adds_plain Flush reply = refl
-adds_plain (Get key) reply = refl
-adds_plain Convert reply = refl
-adds_plain Merge reply = refl
+adds_plain (Swap key old new) reply = refl
+adds_plain event reply = refl
 
 -- a device's fault is one without it too
 fault_plain : {F : Type 0} (reply : Reply F) → IsTrue (is_fault reply) → IsTrue (is_fault (plain reply))
-fault_plain (Accepted n) fault = absurd (cc)
-fault_plain (Acknowledged n) fault = absurd (cc)
-fault_plain (Found v) fault = absurd (cc)
-fault_plain Absent fault = absurd (cc)
-fault_plain Differs fault = absurd (cc)
-fault_plain (Progress progress) fault = absurd (cc)
-fault_plain (Unsettled n) fault = absurd (cc)
-fault_plain NotServed fault = absurd (cc)
 fault_plain (Refused (Device fault)) is = refl
-fault_plain (Refused NotFormatted) fault = absurd (cc)
-fault_plain (Refused BadGeometry) fault = absurd (cc)
-fault_plain (Refused (Damaged place)) fault = absurd (cc)
-fault_plain (Refused Crowded) fault = absurd (cc)
-fault_plain (Refused NoMemory) fault = absurd (cc)
-fault_plain (Refused StoreFull) fault = absurd (cc)
-fault_plain (Refused NoRoom) fault = absurd (cc)
-fault_plain (Refused Failed) fault = absurd (cc)
-fault_plain (Refused Spent) fault = absurd (cc)
-fault_plain (Refused HistoryFull) fault = absurd (cc)
+fault_plain reply is = absurd (cc)
 
 module _ {D F : Type 0} (facts : Ghosts D F) where
   -- after an acknowledging reply no command waits
   none_plain : (core : CoreState D) (reply : Reply F) → Durable core reply → NoneWaits (seen facts core) (plain reply)
-  none_plain core (Accepted n) none = tt
   none_plain core (Acknowledged n) none = none
-  none_plain core (Found v) none = tt
-  none_plain core Absent none = tt
-  none_plain core Differs none = tt
-  none_plain core (Progress progress) none = tt
-  none_plain core (Refused refusal) none = tt
-  none_plain core (Unsettled n) none = tt
-  none_plain core NotServed none = tt
+  none_plain core reply none = tt
 
   -- what a trace sees of a call
   pub seen_step : (old new : CoreState D) (event : Event) (reply : Reply F) → Does facts old new event reply → SeenStep (seen facts old) (seen facts new) event (plain reply)
@@ -223,9 +119,7 @@ module _ {D F : Type 0} (facts : Ghosts D F) where
   never_full old new (Swap key expected (Some value)) cause = cause.1.1
   never_full old new (Swap key expected None) cause = cause.1.1
   never_full old new Flush cause = cause
-  never_full old new (Get key) cause = cause
-  never_full old new Convert cause = cause
-  never_full old new Merge cause = cause
+  never_full old new reply cause = cause
 
   -- a call that was out of memory changes nothing
   lacks : (old new : CoreState D) (event : Event) → Does facts old new event (Refused NoMemory) → new ≡ old
@@ -248,27 +142,11 @@ module _ {D F : Type 0} (facts : Ghosts D F) where
 
     serves_told : (reply : Reply F) → Does facts c0 c1 event reply → Notes trace t0 t1 totals after_totals seat after event (plain reply)
         → Serves facts trace (desk c0 t0) (desk c1 t1) seat after event reply
-    serves_told (Accepted n) does notes = record { done = does; recorded = notes.0; seated = notes.1 }
-    serves_told (Acknowledged n) does notes = record { done = does; recorded = notes.0; seated = notes.1 }
-    serves_told (Found v) does notes = record { done = does; recorded = notes.0; seated = notes.1 }
-    serves_told Absent does notes = record { done = does; recorded = notes.0; seated = notes.1 }
-    serves_told Differs does notes = record { done = does; recorded = notes.0; seated = notes.1 }
-    serves_told (Unsettled n) does notes = record { done = does; recorded = notes.0; seated = notes.1 }
-    serves_told NotServed does notes = record { done = does; recorded = notes.0; seated = notes.1 }
-    serves_told (Progress progress) does notes = record { done = does; recorded = notes.0; seated = notes.1 }
-    serves_told (Refused NotFormatted) does notes = record { done = does; recorded = notes.0; seated = notes.1 }
-    serves_told (Refused BadGeometry) does notes = record { done = does; recorded = notes.0; seated = notes.1 }
-    serves_told (Refused (Damaged place)) does notes = record { done = does; recorded = notes.0; seated = notes.1 }
-    serves_told (Refused Crowded) does notes = record { done = does; recorded = notes.0; seated = notes.1 }
-    serves_told (Refused (Device fault)) does notes = record { done = does; recorded = notes.0; seated = notes.1 }
-    serves_told (Refused StoreFull) does notes = record { done = does; recorded = notes.0; seated = notes.1 }
-    serves_told (Refused NoRoom) does notes = record { done = does; recorded = notes.0; seated = notes.1 }
-    serves_told (Refused Failed) does notes = record { done = does; recorded = notes.0; seated = notes.1 }
-    serves_told (Refused Spent) does notes = record { done = does; recorded = notes.0; seated = notes.1 }
     serves_told (Refused NoMemory) does notes =
         let same = lacks c0 c1 event does in
         record { same = same_desk same notes.0; seated = notes.2; cause = inr (subst (λ (c : CoreState D). Does facts c0 c event (Refused NoMemory)) same does) }
     serves_told (Refused HistoryFull) does notes = absurd (never_full c0 c1 event does.cause)
+    serves_told reply does notes = record { done = does; recorded = notes.0; seated = notes.1 }
 
     -- the store did the event, and the call was noted
     pub serves : (reply : Reply F) (told : Reply (Unit {0})) → told ≡ plain reply → Does facts c0 c1 event reply → Notes trace t0 t1 totals after_totals seat after event told
@@ -278,26 +156,10 @@ module _ {D F : Type 0} (facts : Ghosts D F) where
     module _ (agrees : T → SeenStore → Type 0) (law : agrees t0 (seen facts c0) → (c : RecordedCall) → trace.extends t0 c t1
         → SeenStep (seen facts c0) (seen facts c1) c.event c.reply → agrees t1 (seen facts c1)) where
       keeps_told : (reply : Reply F) → Does facts c0 c1 event reply → Notes trace t0 t1 totals after_totals seat after event (plain reply) → agrees t0 (seen facts c0) → agrees t1 (seen facts c1)
-      keeps_told (Accepted n) does notes held = law held (call seat.caller event (plain {F = F} (Accepted n))) notes.0 (seen_step c0 c1 event (Accepted n) does)
-      keeps_told (Acknowledged n) does notes held = law held (call seat.caller event (plain {F = F} (Acknowledged n))) notes.0 (seen_step c0 c1 event (Acknowledged n) does)
-      keeps_told (Found v) does notes held = law held (call seat.caller event (plain {F = F} (Found v))) notes.0 (seen_step c0 c1 event (Found v) does)
-      keeps_told Absent does notes held = law held (call seat.caller event (plain {F = F} Absent)) notes.0 (seen_step c0 c1 event Absent does)
-      keeps_told Differs does notes held = law held (call seat.caller event (plain {F = F} Differs)) notes.0 (seen_step c0 c1 event Differs does)
-      keeps_told (Unsettled n) does notes held = law held (call seat.caller event (plain {F = F} (Unsettled n))) notes.0 (seen_step c0 c1 event (Unsettled n) does)
-      keeps_told NotServed does notes held = law held (call seat.caller event (plain {F = F} NotServed)) notes.0 (seen_step c0 c1 event NotServed does)
-      keeps_told (Progress progress) does notes held = law held (call seat.caller event (plain {F = F} (Progress progress))) notes.0 (seen_step c0 c1 event (Progress progress) does)
-      keeps_told (Refused NotFormatted) does notes held = law held (call seat.caller event (plain {F = F} (Refused NotFormatted))) notes.0 (seen_step c0 c1 event (Refused NotFormatted) does)
-      keeps_told (Refused BadGeometry) does notes held = law held (call seat.caller event (plain {F = F} (Refused BadGeometry))) notes.0 (seen_step c0 c1 event (Refused BadGeometry) does)
-      keeps_told (Refused (Damaged place)) does notes held = law held (call seat.caller event (plain {F = F} (Refused (Damaged place)))) notes.0 (seen_step c0 c1 event (Refused (Damaged place)) does)
-      keeps_told (Refused Crowded) does notes held = law held (call seat.caller event (plain {F = F} (Refused Crowded))) notes.0 (seen_step c0 c1 event (Refused Crowded) does)
-      keeps_told (Refused (Device fault)) does notes held = law held (call seat.caller event (plain {F = F} (Refused (Device fault)))) notes.0 (seen_step c0 c1 event (Refused (Device fault)) does)
-      keeps_told (Refused StoreFull) does notes held = law held (call seat.caller event (plain {F = F} (Refused StoreFull))) notes.0 (seen_step c0 c1 event (Refused StoreFull) does)
-      keeps_told (Refused NoRoom) does notes held = law held (call seat.caller event (plain {F = F} (Refused NoRoom))) notes.0 (seen_step c0 c1 event (Refused NoRoom) does)
-      keeps_told (Refused Failed) does notes held = law held (call seat.caller event (plain {F = F} (Refused Failed))) notes.0 (seen_step c0 c1 event (Refused Failed) does)
-      keeps_told (Refused Spent) does notes held = law held (call seat.caller event (plain {F = F} (Refused Spent))) notes.0 (seen_step c0 c1 event (Refused Spent) does)
       keeps_told (Refused NoMemory) does notes held =
           subst (λ (t : T). agrees t (seen facts c1)) (sym notes.0) (subst (λ (c : CoreState D). agrees t0 (seen facts c)) (sym (lacks c0 c1 event does)) held)
       keeps_told (Refused HistoryFull) does notes held = absurd (never_full c0 c1 event does.cause)
+      keeps_told reply does notes held = law held (call seat.caller event (plain reply)) notes.0 (seen_step c0 c1 event reply does)
 
       -- the trace agrees with the store on
       pub keeps_agreeing : (reply : Reply F) (told : Reply (Unit {0})) → told ≡ plain reply → Does facts c0 c1 event reply

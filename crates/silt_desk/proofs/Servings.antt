@@ -145,9 +145,7 @@ has_command map between n (Put key value) step = (put key.0 value, refl)
 has_command map between n (Delete key) step = (delete key.0, refl)
 has_command map between n (Swap key old new) step = (setting key.0 new, refl)
 has_command map between n Flush step = absurd step
-has_command map between n (Get key) step = absurd step
-has_command map between n Convert step = absurd step
-has_command map between n Merge step = absurd step
+has_command map between n event step = absurd step
 
 -- the reply to a flush of so many commands
 abbrev acknowledgement : ℕ → PlainReply
@@ -158,12 +156,7 @@ stays_by : (m s count next : ℕ) (r : PlainReply) → Counts count r next → m
 stays_by m s count next (Accepted n) counts few most = (most, omega (arith, counts.1, few))
 stays_by m s count next (Acknowledged n) counts few most = (omega (arith, counts.0, few), omega (arith, counts.1, few))
 stays_by m s count next (Found found) counts few most = (most, omega (arith, counts, few))
-stays_by m s count next Absent counts few most = (most, omega (arith, counts, few))
-stays_by m s count next Differs counts few most = (most, omega (arith, counts, few))
-stays_by m s count next (Progress progress) counts few most = (most, omega (arith, counts, few))
-stays_by m s count next (Refused refusal) counts few most = (most, omega (arith, counts, few))
-stays_by m s count next (Unsettled n) counts few most = (most, omega (arith, counts, few))
-stays_by m s count next NotServed counts few most = (most, omega (arith, counts, few))
+stays_by m s count next reply counts few most = (most, omega (arith, counts, few))
 
 -- ---- many calls
 

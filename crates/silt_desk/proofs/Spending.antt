@@ -26,15 +26,11 @@ waits_most (command ∷ commands) = omega arith
 -- a step writes no more than the manifest
 steps_write : (progress : ProgressOf) → step_writes progress ≤ 3
 steps_write Idle = omega arith
-steps_write Waiting = omega arith
-steps_write Moved = omega arith
-steps_write Finished = omega arith
+steps_write reply = omega arith
 
 steps_sync : (progress : ProgressOf) → step_syncs progress ≤ 4
 steps_sync Idle = omega arith
-steps_sync Waiting = omega arith
-steps_sync Moved = omega arith
-steps_sync Finished = omega arith
+steps_sync reply = omega arith
 
 module _ {D : Type 0} where
   -- no event makes more writes and syncs than a row for which a log is frozen

@@ -64,14 +64,7 @@ count_accepted-append (x ∷ xs) ys = omega (arith, count_accepted-append xs ys)
 
 pub accepted_by-le : (r : Reply (Unit {0})) → accepted_by r ≤ 1
 accepted_by-le (Accepted n) = omega arith
-accepted_by-le (Acknowledged n) = omega arith
-accepted_by-le (Found value) = omega arith
-accepted_by-le Absent = omega arith
-accepted_by-le Differs = omega arith
-accepted_by-le (Progress progress) = omega arith
-accepted_by-le (Refused refusal) = omega arith
-accepted_by-le (Unsettled n) = omega arith
-accepted_by-le NotServed = omega arith
+accepted_by-le reply = omega arith
 
 -- no more commands are accepted than calls are recorded
 pub count_accepted-le : (xs : List RecordedCall) → count_accepted xs ≤ length xs
@@ -103,12 +96,7 @@ acknowledged_one : (reply : PlainReply) (before count next total : ℕ) (store :
 acknowledged_one (Accepted n) before count next total store counts none sum less = less
 acknowledged_one (Acknowledged n) before count next total store counts none sum less = omega (arith, counts.0, counts.1, ap length none, sum)
 acknowledged_one (Found v) before count next total store counts none sum less = less
-acknowledged_one Absent before count next total store counts none sum less = less
-acknowledged_one Differs before count next total store counts none sum less = less
-acknowledged_one (Progress p) before count next total store counts none sum less = less
-acknowledged_one (Refused r) before count next total store counts none sum less = less
-acknowledged_one (Unsettled n) before count next total store counts none sum less = less
-acknowledged_one NotServed before count next total store counts none sum less = less
+acknowledged_one reply before count next total store counts none sum less = less
 
 -- one call more settles on
 settles_more : (a : Past) (c : RecordedCall) (base : Map) (waiting : List Command) (s t : SeenStore) → IsTrue s.content.honest → HasSettled a base waiting s → SeenStep s t c.event c.reply

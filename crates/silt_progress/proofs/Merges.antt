@@ -245,12 +245,7 @@ module _ {D F : Type 0} (facts : Ghosts D F) where
   progress_is old new (Progress progress) does goes = (progress, refl)
   progress_is old new (Refused refusal) does goes = absurd (let no : IsTrue false = goes in cc)
   progress_is old new (Accepted n) does goes = absurd does.cause
-  progress_is old new (Acknowledged n) does goes = absurd does.cause
-  progress_is old new (Found value) does goes = absurd does.cause
-  progress_is old new Absent does goes = absurd does.cause
-  progress_is old new Differs does goes = absurd does.cause
-  progress_is old new (Unsettled n) does goes = absurd does.cause
-  progress_is old new NotServed does goes = absurd does.cause
+  progress_is old new reply does goes = absurd does.cause
 
   -- with nothing to do nothing is done
   idle_step : (old new : CoreState D) (progress : ProgressOf) → Does facts old new Merge (Progress progress) → merge_due old ≡ Idle → new ≡ old

@@ -36,9 +36,7 @@ module _ {D F : Type 0} (facts : Ghosts D F) where
   full old new (Delete key) does = full_setting old new key.0 None does.cause
   full old new (Swap key expected value) does = full_setting old new key.0 value does.cause.1
   full old new Flush does = absurd does.cause
-  full old new (Get key) does = absurd does.cause
-  full old new Convert does = absurd does.cause
-  full old new Merge does = absurd does.cause
+  full old new event does = absurd does.cause
 
   -- there is room with a free log region, or with nothing to convert
   pub room : RoomLaw facts

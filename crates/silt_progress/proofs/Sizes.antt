@@ -76,12 +76,7 @@ module _ {D F : Type 0} (facts : Ghosts D F) where
   kept_convert old new (Progress Finished) does working sized = (convert_step facts old new Finished does refl sized).1
   kept_convert old new (Refused refusal) does working sized = subst IsSized (sym (refused_same old new Convert (Refused refusal) does refl working)) sized
   kept_convert old new (Accepted n) does working sized = absurd does.cause
-  kept_convert old new (Acknowledged n) does working sized = absurd does.cause
-  kept_convert old new (Found value) does working sized = absurd does.cause
-  kept_convert old new Absent does working sized = absurd does.cause
-  kept_convert old new Differs does working sized = absurd does.cause
-  kept_convert old new (Unsettled n) does working sized = absurd does.cause
-  kept_convert old new NotServed does working sized = absurd does.cause
+  kept_convert old new reply does working sized = absurd does.cause
 
   -- the conversion in progress has written as much as before
   written_still : (old new : CoreState D) (event : Event) (reply : Reply F) → Does facts old new event reply → is_convert event ≡ false → new.failed ≡ false → IsSized old

@@ -180,29 +180,13 @@ module _ {D F : Type 0} (facts : Ghosts D F) where
   changes_none (Ok n) is = absurd (cc)
   changes_none (Err NoRoom) is = refl
   changes_none (Err NotFormatted) is = absurd (cc)
-  changes_none (Err BadGeometry) is = absurd (cc)
-  changes_none (Err (Damaged place)) is = absurd (cc)
-  changes_none (Err Crowded) is = absurd (cc)
-  changes_none (Err (Device fault)) is = absurd (cc)
-  changes_none (Err NoMemory) is = absurd (cc)
-  changes_none (Err StoreFull) is = absurd (cc)
-  changes_none (Err Failed) is = absurd (cc)
-  changes_none (Err Spent) is = absurd (cc)
-  changes_none (Err HistoryFull) is = absurd (cc)
+  changes_none reply is = absurd (cc)
 
   swaps_none : (reported : Result (Option ℕ) (Refusal F)) → no_room ≡ plain_answer reported → swap_reply reported ≡ Refused NoRoom
   swaps_none (Ok n) is = absurd (cc)
   swaps_none (Err NoRoom) is = refl
   swaps_none (Err NotFormatted) is = absurd (cc)
-  swaps_none (Err BadGeometry) is = absurd (cc)
-  swaps_none (Err (Damaged place)) is = absurd (cc)
-  swaps_none (Err Crowded) is = absurd (cc)
-  swaps_none (Err (Device fault)) is = absurd (cc)
-  swaps_none (Err NoMemory) is = absurd (cc)
-  swaps_none (Err StoreFull) is = absurd (cc)
-  swaps_none (Err Failed) is = absurd (cc)
-  swaps_none (Err Spent) is = absurd (cc)
-  swaps_none (Err HistoryFull) is = absurd (cc)
+  swaps_none reply is = absurd (cc)
 
   module _ {T : Type 0} (trace : TraceOf T) where
     serves_none : (old new : DeskState D T) (seat after : SeatState) (e : Event) (reply : Reply F) → reply ≡ Refused NoRoom
@@ -224,15 +208,7 @@ module _ {D F : Type 0} (facts : Ghosts D F) where
     lacks_is (Some (Ok n)) is = absurd (cc)
     lacks_is (Some (Err NoRoom)) is = refl
     lacks_is (Some (Err NotFormatted)) is = absurd (cc)
-    lacks_is (Some (Err BadGeometry)) is = absurd (cc)
-    lacks_is (Some (Err (Damaged place))) is = absurd (cc)
-    lacks_is (Some (Err Crowded)) is = absurd (cc)
-    lacks_is (Some (Err (Device fault))) is = absurd (cc)
-    lacks_is (Some (Err NoMemory)) is = absurd (cc)
-    lacks_is (Some (Err StoreFull)) is = absurd (cc)
-    lacks_is (Some (Err Failed)) is = absurd (cc)
-    lacks_is (Some (Err Spent)) is = absurd (cc)
-    lacks_is (Some (Err HistoryFull)) is = absurd (cc)
+    lacks_is reply is = absurd (cc)
 
     and_left : (a b : Bool) → (a && b) ≡ true → a ≡ true
     and_left true b is = refl

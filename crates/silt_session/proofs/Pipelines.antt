@@ -234,12 +234,7 @@ module _ {D F T : Type 0} (facts : Ghosts D F) (trace : TraceOf T) (told : ToldS
         let its : reply ≡ Refused refusal = cc in
         subst (λ (r : PlainReply). IsAnswer facts trace told settles (event.Get key) r) (sym its) (inr (inr (waits.0, (refusal, refl), came)))
     looked_until key count shown reply (Some (Accepted n)) looks came is = absurd (cc)
-    looked_until key count shown reply (Some (Found value)) looks came is = absurd (cc)
-    looked_until key count shown reply (Some Absent) looks came is = absurd (cc)
-    looked_until key count shown reply (Some Differs) looks came is = absurd (cc)
-    looked_until key count shown reply (Some (Progress progress)) looks came is = absurd (cc)
-    looked_until key count shown reply (Some (Unsettled n)) looks came is = absurd (cc)
-    looked_until key count shown reply (Some NotServed) looks came is = absurd (cc)
+    looked_until key count shown reply it looks came is = absurd (cc)
 
     -- a look has its reply
     looked : (key : Key) (until : Option ℕ) (shown reply : PlainReply) → Looks facts settles key (record { reply = shown; until = until })
@@ -265,9 +260,7 @@ module _ {D F T : Type 0} (facts : Ghosts D F) (trace : TraceOf T) (told : ToldS
     shown_answers event.Convert shown reply (is, none) settled = given_now shown reply NotServed is none settled
     shown_answers event.Merge shown reply (is, none) settled = given_now shown reply NotServed is none settled
     shown_answers (event.Put key value) shown reply is settled = absurd is
-    shown_answers (event.Delete key) shown reply is settled = absurd is
-    shown_answers (event.Swap key old new) shown reply is settled = absurd is
-    shown_answers event.Flush shown reply is settled = absurd is
+    shown_answers event shown reply is settled = absurd is
 
     -- the reply of a request's task is one to its event
     request_answers : (request : Request) (reply : PlainReply) → IsToldTo facts trace told request reply → IsAnswer facts trace told settles (asked_event request) reply
@@ -279,9 +272,7 @@ module _ {D F T : Type 0} (facts : Ghosts D F) (trace : TraceOf T) (told : ToldS
     -- out of memory for a request
     request_refused : (request : Request) → IsAnswer facts trace told settles (asked_event request) (Refused NoMemory)
     request_refused (Put key value) = inl refl
-    request_refused (Delete key) = inl refl
-    request_refused (Swap key old new) = inl refl
-    request_refused Flush = inl refl
+    request_refused event = inl refl
 
     -- a reply that came back to a request is one to its event
     pub requested_answers : {E : Type 0} (request : Request) (e : Event) (result : Result PlainReply E) → asked_event request ≡ e
@@ -342,12 +333,7 @@ module _ {D F T : Type 0} (facts : Ghosts D F) (trace : TraceOf T) (told : ToldS
     -- nor has what is out of memory
     refused_none : (e : Event) → own_reply e (Refused NoMemory) ≡ None
     refused_none (event.Get key) = refl
-    refused_none event.Convert = refl
-    refused_none event.Merge = refl
-    refused_none event.Flush = refl
-    refused_none (event.Put key value) = refl
-    refused_none (event.Delete key) = refl
-    refused_none (event.Swap key old new) = refl
+    refused_none event = refl
 
     -- events have the replies at their places in order
     places_order : (next after : ℕ) (marks : KeyMarks) (events : List Event) (places : List Place) (tasks : List TaskState) (replies : List PlainReply)
@@ -444,9 +430,7 @@ marks_more old new key more (event.Put k value) marked = (more (mark_of k)).1 (i
 marks_more old new key more (event.Delete k) marked = (more (mark_of k)).1 (inl marked)
 marks_more old new key more (event.Swap k was is) marked = (more (mark_of k)).1 (inl marked)
 marks_more old new key more event.Flush marked = marked
-marks_more old new key more (event.Get k) marked = marked
-marks_more old new key more event.Convert marked = marked
-marks_more old new key more event.Merge marked = marked
+marks_more old new key more event marked = marked
 
 -- the key of an event is marked
 marks_its : (old new : KeyMarks) (e : Event) → MarksToo old (changed_key e) new → IfSome (changed_key e) (λ k. IsMarked new (mark_of k))
@@ -454,9 +438,7 @@ marks_its old new (event.Put k value) more = (more (mark_of k)).1 (inr refl)
 marks_its old new (event.Delete k) more = (more (mark_of k)).1 (inr refl)
 marks_its old new (event.Swap k was is) more = (more (mark_of k)).1 (inr refl)
 marks_its old new event.Flush more = tt
-marks_its old new (event.Get k) more = tt
-marks_its old new event.Convert more = tt
-marks_its old new event.Merge more = tt
+marks_its old new event more = tt
 
 -- a request's event is no get
 no_get : (request : Request) (key : Option Key) → IsNoGetOf key (asked_event request)

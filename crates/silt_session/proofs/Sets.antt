@@ -195,12 +195,7 @@ is_on Nowhere i = false
 -- a shard does an event if it is on the event's route
 pub routed_by : (count : ℕ) (e : Event) (i : ℕ) → is_routed count i e ≡ is_on (route_of count e) i
 routed_by count (Put key value) i = refl
-routed_by count (Delete key) i = refl
-routed_by count (Swap key old new) i = refl
-routed_by count (Get key) i = refl
-routed_by count Flush i = refl
-routed_by count Convert i = refl
-routed_by count Merge i = refl
+routed_by count event i = refl
 
 -- what is at the same place of a related list
 zip_at : {X Y : Type 0} (R : X → Y → Type 0) (xs : List X) (ys : List Y) (i : ℕ) (x : X) → AllZip R xs ys → slice_get xs i ≡ Some x → (y : Y) × (slice_get ys i ≡ Some y) × R x y

@@ -87,9 +87,7 @@ module _ (session from : ℕ) (calls more : List RecordedCall) (begins : IsPrefi
   told_more e (Refused Failed) (place, at) = (place, stands_more place e (Refused Failed) at)
   told_more e (Refused Spent) (place, at) = (place, stands_more place e (Refused Spent) at)
   told_more e (Found value) told = tt
-  told_more e Absent told = tt
-  told_more e (Progress progress) told = tt
-  told_more e NotServed told = tt
+  told_more e reply told = tt
 
 of_more : (session from : ℕ) (e : Event) (r : PlainReply) (old new : Option (List RecordedCall)) → ExtendsCalls old new
     → IfSome old (λ calls. IsTold session from calls e r) → IfSome new (λ calls. IsTold session from calls e r)
@@ -325,11 +323,7 @@ module _ {D F T : Type 0} (facts : Ghosts D F) (trace : TraceOf T) (settles : Bo
 made_for : (session : ℕ) (caller : Caller) → caller.session ≡ Some session → (e : Event) → IsMadeFor session e caller
 made_for session caller is event.Flush = tt
 made_for session caller is (event.Put key value) = is
-made_for session caller is (event.Delete key) = is
-made_for session caller is (event.Swap key expected value) = is
-made_for session caller is (event.Get key) = is
-made_for session caller is event.Convert = is
-made_for session caller is event.Merge = is
+made_for session caller is event = is
 
 -- what a place is known by
 places_event : (named : ℕ → Option Book) (session : ℕ) (caller : Caller) (e : Event) (r : PlainReply) (place : Option PlaceState) → IsMadeFor session e caller
@@ -339,24 +333,8 @@ places_event named session caller e r (Some place) made places = (places.0, (cal
 
 recorded_plain : {F : Type 0} (r : Reply F) → is_recorded (plain r) ≡ is_recorded r
 recorded_plain (Accepted n) = refl
-recorded_plain (Acknowledged n) = refl
-recorded_plain (Found value) = refl
-recorded_plain Absent = refl
-recorded_plain Differs = refl
-recorded_plain (Progress progress) = refl
-recorded_plain (Unsettled n) = refl
-recorded_plain NotServed = refl
-recorded_plain (Refused NotFormatted) = refl
-recorded_plain (Refused BadGeometry) = refl
-recorded_plain (Refused (Damaged part)) = refl
-recorded_plain (Refused Crowded) = refl
-recorded_plain (Refused (Device fault)) = refl
 recorded_plain (Refused NoMemory) = refl
-recorded_plain (Refused StoreFull) = refl
-recorded_plain (Refused NoRoom) = refl
-recorded_plain (Refused Failed) = refl
-recorded_plain (Refused Spent) = refl
-recorded_plain (Refused HistoryFull) = refl
+recorded_plain reply = refl
 
 module _ {D F T : Type 0} (facts : Ghosts D F) (trace : TraceOf T) where
   -- the seat has the place of a call that was recorded

@@ -104,10 +104,4 @@ joined_all parts n is = elim (joins parts) [
 pub acknowledges_not : (reply : PlainReply) → ((n : ℕ) → reply ≡ Acknowledged n → ⊥) → acknowledges reply ≡ false
 acknowledges_not (Acknowledged n) other = absurd (other n refl)
 acknowledges_not (Accepted n) other = refl
-acknowledges_not (Found value) other = refl
-acknowledges_not Absent other = refl
-acknowledges_not Differs other = refl
-acknowledges_not (Progress progress) other = refl
-acknowledges_not (Refused refusal) other = refl
-acknowledges_not (Unsettled n) other = refl
-acknowledges_not NotServed other = refl
+acknowledges_not reply other = refl

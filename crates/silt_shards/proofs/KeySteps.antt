@@ -67,23 +67,13 @@ module _ {F : Type 0} (values part after : Map) where
   put_step key value (Accepted n) step = record { to = changed values (put key.0 value); step = refl; alike = put_alike key value values part after step }
   put_step key value (Refused refusal) step = record { to = values; step = refl; alike = unchanged key values part after step }
   put_step key value (Acknowledged n) step = absurd step
-  put_step key value (Found found) step = absurd step
-  put_step key value Absent step = absurd step
-  put_step key value Differs step = absurd step
-  put_step key value (Progress progress) step = absurd step
-  put_step key value (Unsettled n) step = absurd step
-  put_step key value NotServed step = absurd step
+  put_step key value reply step = absurd step
 
   pub delete_step : (key : Key) (reply : Reply F) → Step part (Delete key) reply after → KeyStep key (Delete key) (plain reply) values part after
   delete_step key (Accepted n) step = record { to = changed values (delete key.0); step = refl; alike = delete_alike key values part after step }
   delete_step key (Refused refusal) step = record { to = values; step = refl; alike = unchanged key values part after step }
   delete_step key (Acknowledged n) step = absurd step
-  delete_step key (Found found) step = absurd step
-  delete_step key Absent step = absurd step
-  delete_step key Differs step = absurd step
-  delete_step key (Progress progress) step = absurd step
-  delete_step key (Unsettled n) step = absurd step
-  delete_step key NotServed step = absurd step
+  delete_step key reply step = absurd step
 
   pub swap_step : (key : Key) (old new : Option (List ℕ)) (reply : Reply F) → get values key.0 ≡ get part key.0 → Step part (Swap key old new) reply after
       → KeyStep key (Swap key old new) (plain reply) values part after
@@ -91,43 +81,25 @@ module _ {F : Type 0} (values part after : Map) where
   swap_step key old new Differs here step = record { to = values; step = (λ e. step.0 (sym here ∙ e), refl); alike = unchanged key values part after step.1 }
   swap_step key old new (Refused refusal) here step = record { to = values; step = refl; alike = unchanged key values part after step }
   swap_step key old new (Acknowledged n) here step = absurd step
-  swap_step key old new (Found found) here step = absurd step
-  swap_step key old new Absent here step = absurd step
-  swap_step key old new (Progress progress) here step = absurd step
-  swap_step key old new (Unsettled n) here step = absurd step
-  swap_step key old new NotServed here step = absurd step
+  swap_step key old new reply here step = absurd step
 
   pub get_step : (key : Key) (reply : Reply F) → get values key.0 ≡ get part key.0 → Step part (Get key) reply after → KeyStep key (Get key) (plain reply) values part after
   get_step key (Found found) here step = record { to = values; step = (here ∙ step.0, refl); alike = unchanged key values part after step.1 }
   get_step key Absent here step = record { to = values; step = (here ∙ step.0, refl); alike = unchanged key values part after step.1 }
   get_step key (Refused refusal) here step = record { to = values; step = refl; alike = unchanged key values part after step }
   get_step key (Accepted n) here step = absurd step
-  get_step key (Acknowledged n) here step = absurd step
-  get_step key Differs here step = absurd step
-  get_step key (Progress progress) here step = absurd step
-  get_step key (Unsettled n) here step = absurd step
-  get_step key NotServed here step = absurd step
+  get_step key reply here step = absurd step
 
   -- a flush changes no map
   pub flush_same : (reply : Reply F) → Step part Flush reply after → after ≡ part
   flush_same (Acknowledged n) step = step
   flush_same (Refused refusal) step = step
   flush_same (Accepted n) step = absurd step
-  flush_same (Found found) step = absurd step
-  flush_same Absent step = absurd step
-  flush_same Differs step = absurd step
-  flush_same (Progress progress) step = absurd step
-  flush_same (Unsettled n) step = absurd step
-  flush_same NotServed step = absurd step
+  flush_same reply step = absurd step
 
   -- and its reply is one that any map may give
   pub flush_step : (reply : Reply F) → Step part Flush reply after → Step values Flush (plain reply) values
   flush_step (Acknowledged n) step = refl
   flush_step (Refused refusal) step = refl
   flush_step (Accepted n) step = absurd step
-  flush_step (Found found) step = absurd step
-  flush_step Absent step = absurd step
-  flush_step Differs step = absurd step
-  flush_step (Progress progress) step = absurd step
-  flush_step (Unsettled n) step = absurd step
-  flush_step NotServed step = absurd step
+  flush_step reply step = absurd step
