@@ -1,12 +1,12 @@
 -- Lemmas on the bits of numbers and of bytes.
-use Rattle.std.proofs.Common.{◌≡◌, ℕ, zero, suc, ◌+◌, ◌-◌, ◌*◌, ◌/◌, ◌%◌, ◌^◌, ◌<◌, ◌≤◌, List, [], ◌∷◌, ◌++◌, length, take, drop, replicate, refl, sym, ap, ◌∙◌}
+use Rattle.std.proofs.Common.{◌≡◌, ℕ, zero, suc, ◌+◌, ◌-◌, ◌*◌, ◌/◌, ◌%◌, ◌^◌, ◌<◌, ◌≤◌, List, [], ◌∷◌, ◌++◌, length, take, drop, replicate, refl, sym, ap}
 use Rattle.std.proofs.Common.{zero-add, add-zero, arith, length-append}
 use Rattle.std.proofs.lemmas.List.{take_at, drop_at, take-append-drop, length-take-le, replicate-append-replicate, take-replicate}
 use Rattle.std.proofs.Math.Seq.{take-append-add}
 use Rattle.std.specs.Int.{w64, byte_at, bytes_high_first, to_be_bytes}
 use Rattle.std.proofs.lemmas.List.Concat.{flat_map-append}
 use Rattle.std.proofs.lemmas.Nat.{shr-shr, shl-shr, shr_split, shr_high, mod-pow-add, pow-add, pow_pos}
-use Rattle.std.proofs.Math.Nat.{pow-succ', pow-suc, div-one, mul-mod_left, mul_assoc, mul_comm, mul-add-div_right, mul-add-mod_self_left, zero-div, div-eq_of_lt}
+use Rattle.std.proofs.Math.Nat.{pow-succ', pow-suc, div-one, mul-mod_left, mul-add-div_right, mul-add-mod_self_left, zero-div, div-eq_of_lt}
 use Rattle.silt_gamma.specs.Bits.{low_bits, bits_of}
 
 -- a number has as many bits as are asked for
@@ -20,13 +20,12 @@ low_bits_split zero b n = ap (λ (w : ℕ). low_bits w n) (zero-add b)
 low_bits_split (suc a) b n =
     let e : suc a + b ≡ suc (b + a) = omega arith in
     let f : b + a ≡ a + b = omega arith in
-    ap (λ (w : ℕ). low_bits w n) e ∙ ap (λ (x : ℕ). x % 2 ∷ low_bits (b + a) n) (sym (shr-shr n b a)) ∙ ap (λ (w : ℕ). n / 2 ^ b / 2 ^ a % 2 ∷ low_bits w n) f
-    ∙ ap (λ (xs : List ℕ). n / 2 ^ b / 2 ^ a % 2 ∷ xs) (low_bits_split a b n)
+    cc (shr-shr n b a, low_bits_split a b n)
 
 -- a byte has eight bits
 pub length-bits_of : (bytes : List ℕ) → length (bits_of bytes) ≡ 8 * length bytes
 length-bits_of [] = refl
-length-bits_of (b ∷ bytes) = let h = length-bits_of bytes in let k = length-append (low_bits 8 b) (bits_of bytes) in omega (arith, h, k)
+length-bits_of (b ∷ bytes) = omega (arith, length-bits_of bytes, length-append (low_bits 8 b) (bits_of bytes))
 
 -- the bits of bytes that follow one another
 pub bits_of-append : (xs ys : List ℕ) → bits_of (xs ++ ys) ≡ bits_of xs ++ bits_of ys
@@ -35,72 +34,56 @@ bits_of-append xs ys = flat_map-append (low_bits 8) xs ys
 -- whole bytes left out are their bits left out
 pub drop-bits_of : (k : ℕ) (bytes : List ℕ) → k ≤ length bytes → drop (8 * k) (bits_of bytes) ≡ bits_of (drop k bytes)
 drop-bits_of k bytes within =
-    let front : length (take k bytes) ≡ k = length-take-le k bytes within in
-    let split = ap bits_of (sym (take-append-drop k bytes)) ∙ bits_of-append (take k bytes) (drop k bytes) in
-    let sized : length (bits_of (take k bytes)) ≡ 8 * k = length-bits_of (take k bytes) ∙ ap (λ (x : ℕ). 8 * x) front in
-    ap (λ (xs : List ℕ). drop (8 * k) xs) split ∙ drop_at (bits_of (take k bytes)) (bits_of (drop k bytes)) (8 * k) sized
+    let sized : length (bits_of (take k bytes)) ≡ 8 * k = rw (length-bits_of, length-take-le k bytes within) refl in
+    cc (take-append-drop k bytes, bits_of-append (take k bytes) (drop k bytes), drop_at (bits_of (take k bytes)) (bits_of (drop k bytes)) (8 * k) sized)
 
 -- bits above the lowest w do not matter
 pub low_bits_above : (w h n : ℕ) → low_bits w (h * 2 ^ w + n) ≡ low_bits w n
 low_bits_above zero h n = refl
 low_bits_above (suc w) h n =
-    let double : 2 ^ suc w ≡ 2 * 2 ^ w = pow-succ' 2 w in
     let positive : 0 < 2 ^ w = pow_pos w in
-    let outer : h * 2 ^ suc w + n ≡ (2 * h) * 2 ^ w + n = ap (λ (x : ℕ). h * x + n) double ∙ ap (λ (x : ℕ). x + n) (sym (mul_assoc h 2 (2 ^ w)) ∙ ap (λ (x : ℕ). x * 2 ^ w) (mul_comm h 2)) in
-    let head : (h * 2 ^ suc w + n) / 2 ^ w % 2 ≡ n / 2 ^ w % 2 =
-    ap (λ (x : ℕ). x / 2 ^ w % 2) outer ∙ ap (λ (x : ℕ). x % 2) (mul-add-div_right positive (2 * h) n) ∙ mul-add-mod_self_left 2 h (n / 2 ^ w) in
-    let tail : low_bits w (h * 2 ^ suc w + n) ≡ low_bits w n = ap (low_bits w) outer ∙ low_bits_above w (2 * h) n in
-    ap (λ (x : ℕ). x ∷ low_bits w (h * 2 ^ suc w + n)) head ∙ ap (λ (xs : List ℕ). n / 2 ^ w % 2 ∷ xs) tail
+    let outer : h * 2 ^ suc w + n ≡ (2 * h) * 2 ^ w + n = rw (pow-succ' 2 w) (grind arith) in
+    cc (mul-add-div_right positive (2 * h) n, mul-add-mod_self_left 2 h (n / 2 ^ w), low_bits_above w (2 * h) n)
 
 -- 0 has only zeros
 pub low_bits-zero : (w : ℕ) → low_bits w 0 ≡ replicate w 0
 low_bits-zero zero = refl
-low_bits-zero (suc w) = ap (λ (x : ℕ). x % 2 ∷ low_bits w 0) (zero-div (2 ^ w)) ∙ ap (λ (xs : List ℕ). 0 ∷ xs) (low_bits-zero w)
+low_bits-zero (suc w) = cc (zero-div (2 ^ w), low_bits-zero w)
 
 -- a number moved up by k bits has k zeros below
 pub low_bits_moved : (w k n : ℕ) → low_bits (w + k) (n * 2 ^ k) ≡ low_bits w n ++ replicate k 0
-low_bits_moved w k n =
-    let e : n * 2 ^ k ≡ n * 2 ^ k + 0 = omega arith in
-    low_bits_split w k (n * 2 ^ k) ∙ ap (λ (x : ℕ). low_bits w x ++ low_bits k (n * 2 ^ k)) (shl-shr n k)
-    ∙ ap (λ (xs : List ℕ). low_bits w n ++ xs) (ap (low_bits k) e ∙ low_bits_above k n 0 ∙ low_bits-zero k)
+low_bits_moved w k n = let e : n * 2 ^ k ≡ n * 2 ^ k + 0 = omega arith in cc (low_bits_split w k (n * 2 ^ k), shl-shr n k, low_bits_above k n 0, low_bits-zero k)
 
 -- a number of w bits has zeros above
 pub low_bits_small : (k w n : ℕ) → n < 2 ^ w → low_bits (k + w) n ≡ replicate k 0 ++ low_bits w n
-low_bits_small k w n small =
-    low_bits_split k w n ∙ ap (λ (x : ℕ). low_bits k x ++ low_bits w n) (div-eq_of_lt small) ∙ ap (λ (xs : List ℕ). xs ++ low_bits w n) (low_bits-zero k)
+low_bits_small k w n small = rw (low_bits_split, div-eq_of_lt small, low_bits-zero)
 
 -- the lowest w bits are those of the remainder
 pub low_bits_mod : (w n : ℕ) → low_bits w (n % 2 ^ w) ≡ low_bits w n
-low_bits_mod w n = sym (low_bits_above w (n / 2 ^ w) (n % 2 ^ w)) ∙ ap (low_bits w) (shr_split n w)
+low_bits_mod w n = cc (low_bits_above w (n / 2 ^ w) (n % 2 ^ w), shr_split n w)
 
 -- what a word of s + t bits holds after a move up by s
 pub moved_word : (s t n : ℕ) → n * 2 ^ s % 2 ^ (t + s) ≡ (n % 2 ^ t) * 2 ^ s
-moved_word s t n =
-    mod-pow-add (n * 2 ^ s) t s ∙ ap (λ (x : ℕ). (x % 2 ^ t) * 2 ^ s + n * 2 ^ s % 2 ^ s) (shl-shr n s)
-    ∙ ap (λ (x : ℕ). (n % 2 ^ t) * 2 ^ s + x) (mul-mod_left n (2 ^ s)) ∙ add-zero ((n % 2 ^ t) * 2 ^ s)
+moved_word s t n = cc (mod-pow-add (n * 2 ^ s) t s, shl-shr n s, mul-mod_left n (2 ^ s), add-zero ((n % 2 ^ t) * 2 ^ s))
 
 -- bits that are joined: those of x above those of y
 pub low_bits_joined : (t s x y : ℕ) → y < 2 ^ s → low_bits (t + s) (x * 2 ^ s + y) ≡ low_bits t x ++ low_bits s y
-low_bits_joined t s x y small =
-    low_bits_split t s (x * 2 ^ s + y) ∙ ap (λ (z : ℕ). low_bits t z ++ low_bits s (x * 2 ^ s + y)) (shr_high x s y small) ∙ ap (λ (zs : List ℕ). low_bits t x ++ zs) (low_bits_above s x y)
+low_bits_joined t s x y small = rw (low_bits_split, shr_high x s y small, low_bits_above)
 
 -- a byte's worth is that of eight bits
 byte_power : (k : ℕ) → 256 ^ k ≡ 2 ^ (8 * k)
 byte_power zero = refl
 byte_power (suc k) =
-    let eight : 8 * k + 8 ≡ 8 * suc k = omega arith in
-    pow-suc 256 k ∙ ap (λ (x : ℕ). x * 2 ^ 8) (byte_power k) ∙ sym (pow-add 2 (8 * k) 8) ∙ ap (λ (x : ℕ). 2 ^ x) eight
+    let eight : 8 * suc k ≡ 8 * k + 8 = omega arith in
+    rw (eight, pow-add 2 (8 * k) 8, ← byte_power k) (pow-suc 256 k)
 
 -- the bits of the bytes of a number
 bits_of_high_first : (k n : ℕ) → bits_of (bytes_high_first k n) ≡ low_bits (8 * k) n
 bits_of_high_first zero n = refl
 bits_of_high_first (suc k) n =
     let eight : 8 * suc k ≡ 8 + 8 * k = omega arith in
-    let power : 256 ^ k ≡ 2 ^ (8 * k) = byte_power k in
-    let worth : byte_at k n ≡ n / 2 ^ (8 * k) % 2 ^ 8 = byte_at_is k n ∙ ap (λ (x : ℕ). n / x % 256) power in
-    let head : low_bits 8 (byte_at k n) ≡ low_bits 8 (n / 2 ^ (8 * k)) = ap (low_bits 8) worth ∙ low_bits_mod 8 (n / 2 ^ (8 * k)) in
-    ap (λ (xs : List ℕ). low_bits 8 (byte_at k n) ++ xs) (bits_of_high_first k n) ∙ ap (λ (xs : List ℕ). xs ++ low_bits (8 * k) n) head
-    ∙ sym (low_bits_split 8 (8 * k) n) ∙ ap (λ (w : ℕ). low_bits w n) (sym eight)
+    let worth : byte_at k n ≡ n / 2 ^ (8 * k) % 2 ^ 8 = cc (byte_at_is k n, byte_power k) in
+    cc (bits_of_high_first k n, low_bits_mod 8 (n / 2 ^ (8 * k)), low_bits_split 8 (8 * k) n)
   where
     byte_at_is : (i m : ℕ) → byte_at i m ≡ m / 256 ^ i % 256
     byte_at_is zero m = ap (λ (x : ℕ). x % 256) (sym (div-one m))
@@ -113,26 +96,24 @@ bits_of_to_be n = bits_of_high_first 8 n
 -- the first bytes have the first bits
 pub bits_of-take : (k : ℕ) (bytes : List ℕ) → k ≤ length bytes → bits_of (take k bytes) ≡ take (8 * k) (bits_of bytes)
 bits_of-take k bytes within =
-    let sized : length (bits_of (take k bytes)) ≡ 8 * k = length-bits_of (take k bytes) ∙ ap (λ (x : ℕ). 8 * x) (length-take-le k bytes within) in
-    sym (take_at (bits_of (take k bytes)) (bits_of (drop k bytes)) (8 * k) sized) ∙ ap (take (8 * k)) (sym (bits_of-append (take k bytes) (drop k bytes)) ∙ ap bits_of (take-append-drop k bytes))
+    let sized : length (bits_of (take k bytes)) ≡ 8 * k = rw (length-bits_of, length-take-le k bytes within) refl in
+    cc (take_at (bits_of (take k bytes)) (bits_of (drop k bytes)) (8 * k) sized, bits_of-append (take k bytes) (drop k bytes), take-append-drop k bytes)
 
 -- bytes of 0 have only zeros
 pub bits_of-zeros : (k : ℕ) → bits_of (replicate k 0) ≡ replicate (8 * k) 0
 bits_of-zeros zero = refl
-bits_of-zeros (suc k) =
-    let eight : 8 + 8 * k ≡ 8 * suc k = omega arith in
-    ap (λ (xs : List ℕ). replicate 8 0 ++ xs) (bits_of-zeros k) ∙ replicate-append-replicate 8 (8 * k) 0 ∙ ap (λ (n : ℕ). replicate n 0) eight
+bits_of-zeros (suc k) = let eight : 8 + 8 * k ≡ 8 * suc k = omega arith in cc (bits_of-zeros k, replicate-append-replicate {A = ℕ} 8 (8 * k) 0)
 
 -- a front that ends before the filling zeros
 pub take_filled : (n a b : ℕ) (xs : List ℕ) → n ≤ length xs + a → n ≤ length xs + b → take n (xs ++ replicate a 0) ≡ take n (xs ++ replicate b 0)
 take_filled zero a b xs p q = refl
-take_filled (suc n) a b (x ∷ xs) p q = ap (λ (ys : List ℕ). x ∷ ys) (take_filled n a b xs (omega arith) (omega arith))
+take_filled (suc n) a b (x ∷ xs) p q = cc (take_filled n a b xs (omega arith) (omega arith))
 take_filled (suc n) zero b [] p q = absurd (omega arith)
 take_filled (suc n) (suc a) zero [] p q = absurd (omega arith)
-take_filled (suc n) (suc a) (suc b) [] p q = ap (λ (ys : List ℕ). 0 ∷ ys) (take_filled n a b [] (omega arith) (omega arith))
+take_filled (suc n) (suc a) (suc b) [] p q = cc (take_filled n a b [] (omega arith) (omega arith))
 
 -- a front that ends within the filling zeros
 pub take_into_zeros : (xs : List ℕ) (n a : ℕ) → length xs ≤ n → n ≤ length xs + a → take n (xs ++ replicate a 0) ≡ xs ++ replicate (n - length xs) 0
 take_into_zeros xs n a low high =
     let e : n ≡ length xs + (n - length xs) = omega arith in
-    ap (λ (m : ℕ). take m (xs ++ replicate a 0)) e ∙ take-append-add xs (replicate a 0) (n - length xs) ∙ ap (λ (ys : List ℕ). xs ++ ys) (take-replicate (n - length xs) a 0 (omega arith))
+    cc (take-append-add xs (replicate a 0) (n - length xs), take-replicate {X = ℕ} (n - length xs) a 0 (omega arith))

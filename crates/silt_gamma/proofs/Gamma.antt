@@ -1,10 +1,9 @@
 -- Laws of the gamma code.
-use Rattle.std.proofs.Common.{◌≡◌, ℕ, zero, suc, ◌+◌, ◌*◌, ◌/◌, ◌%◌, ◌^◌, ◌<◌, ◌≤◌, inl, inr, Bool, true, false, nat_le, if◌then◌else◌, List, ◌∷◌, ◌++◌, replicate, refl, sym, ap, ◌∙◌, arith}
+use Rattle.std.proofs.Common.{◌≡◌, ℕ, zero, suc, ◌+◌, ◌/◌, ◌%◌, ◌^◌, ◌<◌, ◌≤◌, inl, inr, Bool, true, false, nat_le, if◌then◌else◌, List, ◌∷◌, ◌++◌, replicate, refl, sym, ap, ◌∙◌, arith}
 use Rattle.std.proofs.Math.Pow.{pow_mono, pow_pos}
-use Rattle.std.proofs.Math.Nat.{pow-succ', mul-le-mul_right, mod-lt}
 use Rattle.std.proofs.lemmas.Bool.{leb-true, leb-false, cases_order}
 use Rattle.std.proofs.lemmas.List.{append_assoc}
-use Rattle.std.proofs.lemmas.Nat.{mod-pow-add, shr_split}
+use Rattle.std.proofs.lemmas.Nat.{le-div, mod-pow-add, shr_below, shr_split}
 use Rattle.silt_gamma.specs.Gamma.{exponent_up_to, gamma_code, HasCode, GammaLaw, PrefixLaw}
 use Rattle.silt_gamma.specs.Bits.{low_bits}
 
@@ -44,24 +43,11 @@ gamma_law n within =
 
 -- the highest bit of a code's number is 1
 top_bit : (k n : ℕ) → 2 ^ k ≤ n → n < 2 ^ (k + 1) → n / 2 ^ k ≡ 1
-top_bit k n low high = go (n / 2 ^ k) refl
-  where
-    double : 2 ^ (k + 1) ≡ 2 * 2 ^ k
-    double = let e : k + 1 ≡ suc k = omega arith in ap (λ (x : ℕ). 2 ^ x) e ∙ pow-succ' 2 k
-
-    go : (q : ℕ) → n / 2 ^ k ≡ q → q ≡ 1
-    go zero e =
-        let s = shr_split n k in
-        let positive : 0 < 2 ^ k = pow_pos k in
-        let r : n % 2 ^ k < 2 ^ k = mod-lt n positive in
-        let h = rw e at s in
-        absurd (omega (arith, h))
-    go (suc zero) e = refl
-    go (suc (suc q)) e =
-        let s = shr_split n k in
-        let h = rw e at s in
-        let more : 2 * 2 ^ k ≤ suc (suc q) * 2 ^ k = mul-le-mul_right (2 ^ k) (omega arith) in
-        absurd (omega (arith, h, double))
+top_bit k n low high =
+    let next : k + 1 ≡ 1 + k = omega arith in
+    let most : n / 2 ^ k < 2 = shr_below n 1 k (rw next at high) in
+    let least : 1 ≤ n / 2 ^ k = le-div 1 n (2 ^ k) (pow_pos k) (omega arith) in
+    omega arith
 
 -- zeros up to the first one
 zeros_same : (a b : ℕ) (us vs : List ℕ) → replicate a 0 ++ 1 ∷ us ≡ replicate b 0 ++ 1 ∷ vs → (a ≡ b) × (us ≡ vs)
@@ -72,16 +58,12 @@ zeros_same (suc a) (suc b) us vs e = let h : replicate a 0 ++ 1 ∷ us ≡ repli
 
 -- the same bits, as many, are the same number
 pub low_bits_same : (w m n : ℕ) (xs ys : List ℕ) → low_bits w m ++ xs ≡ low_bits w n ++ ys → (m % 2 ^ w ≡ n % 2 ^ w) × (xs ≡ ys)
-low_bits_same zero m n xs ys e = (let a : m % 1 < 1 = mod-lt m (omega arith) in let b : n % 1 < 1 = mod-lt n (omega arith) in omega arith, e)
+low_bits_same zero m n xs ys e = (omega arith, e)
 low_bits_same (suc w) m n xs ys e =
     let head : m / 2 ^ w % 2 ≡ n / 2 ^ w % 2 = cc in
-    let tail : low_bits w m ++ xs ≡ low_bits w n ++ ys = cc in
-    let rest = low_bits_same w m n xs ys tail in
-    let next : 1 + w ≡ suc w = omega arith in
-    let sm : m % 2 ^ (1 + w) ≡ (m / 2 ^ w % 2) * 2 ^ w + m % 2 ^ w = mod-pow-add m 1 w in
-    let sn : n % 2 ^ (1 + w) ≡ (n / 2 ^ w % 2) * 2 ^ w + n % 2 ^ w = mod-pow-add n 1 w in
-    let one : m % 2 ^ (1 + w) ≡ n % 2 ^ (1 + w) = sm ∙ ap (λ (x : ℕ). x * 2 ^ w + m % 2 ^ w) head ∙ ap (λ (x : ℕ). (n / 2 ^ w % 2) * 2 ^ w + x) rest.0 ∙ sym sn in
-    (rw next at one, rest.1)
+    let rest = low_bits_same w m n xs ys (cc) in
+    let next : suc w ≡ 1 + w = omega arith in
+    (rw next (cc (mod-pow-add m 1 w, mod-pow-add n 1 w, rest.0)), rest.1)
 
 -- the code with its first one
 front : (k n : ℕ) (xs : List ℕ) → 2 ^ k ≤ n → n < 2 ^ (k + 1) → (replicate k 0 ++ low_bits (suc k) n) ++ xs ≡ replicate k 0 ++ 1 ∷ (low_bits k n ++ xs)
@@ -92,16 +74,10 @@ prefix_from : (a b m n : ℕ) (xs ys : List ℕ) → 2 ^ a ≤ m → m < 2 ^ (a 
     → (replicate a 0 ++ low_bits (suc a) m) ++ xs ≡ (replicate b 0 ++ low_bits (suc b) n) ++ ys → (m ≡ n) × (xs ≡ ys)
 prefix_from a b m n xs ys ma mb na nb e =
     let both = zeros_same a b (low_bits a m ++ xs) (low_bits b n ++ ys) (sym (front a m xs ma mb) ∙ e ∙ front b n ys na nb) in
-    let same = both.0 in
-    let bits : low_bits a m ++ xs ≡ low_bits a n ++ ys = both.1 ∙ ap (λ (w : ℕ). low_bits w n ++ ys) (sym same) in
-    let rest = low_bits_same a m n xs ys bits in
-    let nb' : n < 2 ^ (a + 1) = rw (← same) at nb in
-    let na' : 2 ^ a ≤ n = rw (← same) at na in
+    let rest = low_bits_same a m n xs ys (cc (both.0, both.1)) in
     let qm = top_bit a m ma mb in
-    let qn = top_bit a n na' nb' in
-    let sm = rw qm at (shr_split m a) in
-    let sn = rw qn at (shr_split n a) in
-    (omega (arith, sm, sn, rest.0), rest.1)
+    let qn = top_bit a n (rw (← both.0) at na) (rw (← both.0) at nb) in
+    (omega (arith, rw qm at (shr_split m a), rw qn at (shr_split n a), rest.0), rest.1)
 
 -- the law, for two codes and what follows them
 pub codes_apart : (m n : ℕ) (xs ys : List ℕ) → HasCode m → HasCode n → gamma_code m ++ xs ≡ gamma_code n ++ ys → (m ≡ n) × (xs ≡ ys)

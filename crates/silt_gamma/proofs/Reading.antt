@@ -18,7 +18,7 @@ gamma_code_is k n within low high =
     let fits = exponent_fits 31 n within.0 within.1 in
     let same = one_exponent (exponent_up_to 31 n) k n fits.0 fits.1 low high in
     let width : k + (k + 1) ≡ 2 * k + 1 = omega arith in
-    ap (λ (e : ℕ). replicate e 0 ++ low_bits (e + 1) n) same ∙ sym (low_bits_small k (k + 1) n high) ∙ ap (λ (w : ℕ). low_bits w n) width
+    cc (low_bits_small k (k + 1) n high)
 
 -- what a reader's fields mean for the bits that are left
 pub record Shows (bytes : List ℕ) (at end window ready : ℕ) (left : List ℕ) : Type 0 where
@@ -28,69 +28,50 @@ pub record Shows (bytes : List ℕ) (at end window ready : ℕ) (left : List ℕ
 -- the front of what is left is the highest bits of the word
 front_of : (bytes : List ℕ) (at end window ready w : ℕ) (left : List ℕ) → Shows bytes at end window ready left → w ≤ ready → w ≤ end - at → take w left ≡ low_bits w (window / 2 ^ (64 - w))
 front_of bytes at end window ready w left shows word within =
-    let is = shows.is in
-    let upto = is.upto in
-    let ordered = is.ordered in
-    let inside = is.inside in
     let bits = bits_of bytes in
     let size = length-bits_of bytes in
     let rest = length-drop at bits in
     let top = window / 2 ^ (64 - ready) in
     let parts : w + (ready - w) ≡ ready = omega arith in
     let place : (64 - ready) + (ready - w) ≡ 64 - w = omega arith in
-    let high : top / 2 ^ (ready - w) ≡ window / 2 ^ (64 - w) = shr-shr window (64 - ready) (ready - w) ∙ ap (λ (k : ℕ). window / 2 ^ k) place in
-    let from_word : take w (low_bits ready top) ≡ low_bits w (window / 2 ^ (64 - w)) =
-    ap (take w) (ap (λ (n : ℕ). low_bits n top) (sym parts) ∙ low_bits_split w (ready - w) top)
-    ∙ take_at (low_bits w (top / 2 ^ (ready - w))) _ w (length-low_bits w (top / 2 ^ (ready - w))) ∙ ap (low_bits w) high in
-    let from_bits : take w (low_bits ready top) ≡ take w (drop at bits) =
-    ap (take w) is.word ∙ take-take w ready (drop at (bits ++ replicate 72 0)) word
-    ∙ ap (take w) (drop-append-le at bits (replicate 72 0) (omega arith)) ∙ take-append-le w (drop at bits) (replicate 72 0) (omega arith)
-    in
-    ap (take w) (sym shows.view) ∙ take-take w (end - at) (drop at bits) within ∙ sym from_bits ∙ from_word
+    let shown = take-take w (end - at) (drop at bits) within in
+    let from_bits = take-take w ready (drop at (bits ++ replicate 72 0)) word in
+    let unfilled = drop-append-le at bits (replicate 72 0) (omega arith) in
+    let first = take-append-le w (drop at bits) (replicate 72 0) (omega arith) in
+    let from_word = take_at (low_bits w (top / 2 ^ (ready - w))) (low_bits (ready - w) top) w (length-low_bits w (top / 2 ^ (ready - w))) in
+    cc (shows.view, shows.is.word, low_bits_split w (ready - w) top, shr-shr window (64 - ready) (ready - w))
 
 -- how many bits are left
 length_left : (bytes : List ℕ) (at end window ready : ℕ) (left : List ℕ) → Shows bytes at end window ready left → length left ≡ end - at
 length_left bytes at end window ready left shows =
-    let size = length-bits_of bytes in
-    let rest = length-drop at (bits_of bytes) in
-    let ordered = shows.is.ordered in
-    let inside = shows.is.inside in
-    sym (ap length shows.view) ∙ length-take-le (end - at) (drop at (bits_of bytes)) (omega arith)
+    rw (← shows.view) (length-take-le (end - at) (drop at (bits_of bytes)) (omega (arith, length-bits_of bytes, length-drop at (bits_of bytes))))
 
 -- what is left after w bits
 pub left_after : (bytes : List ℕ) (at end window ready w : ℕ) (left : List ℕ) → Shows bytes at end window ready left → w ≤ end - at
     → take (end - (at + w)) (drop (at + w) (bits_of bytes)) ≡ drop w left
 left_after bytes at end window ready w left shows within =
-    let count : end - at ≡ w + (end - (at + w)) = let ordered = shows.is.ordered in omega arith in
-    let bits = bits_of bytes in
-    sym (ap (drop w) (sym shows.view ∙ ap (λ (n : ℕ). take n (drop at bits)) count) ∙ drop-take w (end - (at + w)) (drop at bits) ∙ ap (take (end - (at + w))) (drop-drop w at bits))
+    let count : end - at ≡ w + (end - (at + w)) = omega arith in
+    cc (shows.view, drop-take w (end - (at + w)) (drop at (bits_of bytes)), drop-drop w at (bits_of bytes))
 
 -- the fields after w bits were taken
 pub window_after : (bytes : List ℕ) (at end window ready w : ℕ) → IsWindow bytes at end window ready → w ≤ ready → w ≤ end - at → IsWindow bytes (at + w) end (window * 2 ^ w % 2 ^ 64) (ready - w)
 window_after bytes at end window ready w is word within =
-    let ordered = is.ordered in
-    let upto = is.upto in
     let all = bits_of bytes ++ replicate 72 0 in
     let top = window / 2 ^ (64 - ready) in
     let whole : (64 - w) + w ≡ 64 = omega arith in
-    let moved : window * 2 ^ w % 2 ^ 64 ≡ (window % 2 ^ (64 - w)) * 2 ^ w = ap (λ (n : ℕ). window * 2 ^ w % 2 ^ n) (sym whole) ∙ moved_word w (64 - w) window in
     let place : 64 - (ready - w) ≡ w + (64 - ready) = omega arith in
     let field : (ready - w) + (64 - ready) ≡ 64 - w = omega arith in
     let parts : w + (ready - w) ≡ ready = omega arith in
+    let moved : window * 2 ^ w % 2 ^ 64 ≡ (window % 2 ^ (64 - w)) * 2 ^ w = cc (moved_word w (64 - w) window) in
     let number : window * 2 ^ w % 2 ^ 64 / 2 ^ (64 - (ready - w)) ≡ top % 2 ^ (ready - w) =
-    ap (λ (x : ℕ). x / 2 ^ (64 - (ready - w))) moved ∙ ap (λ (n : ℕ). (window % 2 ^ (64 - w)) * 2 ^ w / 2 ^ n) place ∙ sym (shr-shr ((window % 2 ^ (64 - w)) * 2 ^ w) w (64 - ready))
-    ∙ ap (λ (x : ℕ). x / 2 ^ (64 - ready)) (shl-shr (window % 2 ^ (64 - w)) w) ∙ ap (λ (n : ℕ). window % 2 ^ n / 2 ^ (64 - ready)) (sym field) ∙ field_of window (ready - w) (64 - ready)
-    in
-    let low : low_bits (ready - w) top ≡ drop w (low_bits ready top) =
-    sym (ap (drop w) (ap (λ (n : ℕ). low_bits n top) (sym parts) ∙ low_bits_split w (ready - w) top) ∙ drop_at (low_bits w (top / 2 ^ (ready - w))) _ w (length-low_bits w (top / 2 ^ (ready - w)))) in
+    cc (shr-shr ((window % 2 ^ (64 - w)) * 2 ^ w) w (64 - ready), shl-shr (window % 2 ^ (64 - w)) w, field_of window (ready - w) (64 - ready)) in
+    let low = drop_at (low_bits w (top / 2 ^ (ready - w))) (low_bits (ready - w) top) w (length-low_bits w (top / 2 ^ (ready - w))) in
     record {
       ordered = omega arith;
       inside = is.inside;
       small = mod_below (window * 2 ^ w) (2 ^ 64) (omega arith);
       upto = omega arith;
-      word =
-          ap (low_bits (ready - w)) number ∙ low_bits_mod (ready - w) top ∙ low ∙ ap (drop w) is.word ∙ ap (λ (n : ℕ). drop w (take n (drop at all))) (sym parts)
-          ∙ drop-take w (ready - w) (drop at all) ∙ ap (take (ready - w)) (drop-drop w at all);
+      word = cc (is.word, low_bits_mod (ready - w) top, low_bits_split w (ready - w) top, drop-take w (ready - w) (drop at all), drop-drop w at all);
     }
 
 -- the fields with a word read anew
@@ -111,9 +92,7 @@ word_from_top : (window z j c k : ℕ) → c + suc j ≡ 64 → z ≡ c → z �
 word_from_top window z j c k sum zeros few rest low high =
     let place : j ≡ z + k = omega arith in
     let after : suc j ≡ (z + 1) + k = omega arith in
-    let least : 2 ^ j ≡ 2 ^ z * 2 ^ k = ap (λ (x : ℕ). 2 ^ x) place ∙ pow-add 2 z k in
-    let most : 2 ^ suc j ≡ 2 ^ ((z + 1) + k) = ap (λ (x : ℕ). 2 ^ x) after in
-    (omega arith, omega arith)
+    (rw (← pow-add 2 z k, ← place) low, rw after at high)
 
 -- the zeros in front by the number behind them
 top_from_number : (window n e j c k : ℕ) → c + suc j ≡ 64 → 2 ^ j ≤ window → window < 2 ^ suc j → k ≡ 64 - (2 * e + 1) → window / 2 ^ k ≡ n → 2 ^ e ≤ n → n < 2 ^ (e + 1) → e ≤ 31 → c ≡ e

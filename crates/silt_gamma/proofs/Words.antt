@@ -1,5 +1,5 @@
 -- Lemmas on words of 64 bits that are read out of bytes.
-use Rattle.std.proofs.Common.{◌≡◌, ℕ, ◌+◌, ◌-◌, ◌*◌, ◌/◌, ◌%◌, ◌^◌, ◌<◌, ◌≤◌, List, [], ◌∷◌, ◌++◌, length, take, drop, get_or, replicate, sym, ap, ◌∙◌, inl, inr, arith, length-append, length-drop}
+use Rattle.std.proofs.Common.{◌≡◌, ℕ, ◌+◌, ◌-◌, ◌*◌, ◌/◌, ◌%◌, ◌^◌, ◌<◌, ◌≤◌, List, [], ◌∷◌, ◌++◌, length, take, drop, get_or, replicate, inl, inr, arith, length-append, length-drop}
 use Rattle.std.specs.Int.RustNames.{bit_or}
 use Rattle.std.proofs.lemmas.List.{append_assoc, take_at, drop_at, drop-drop, drop-append-le, take-append-le, drop_more, length-take-le, get_or-take, get_or_past, take-append-drop}
 use Rattle.std.proofs.lemmas.Nat.{or_shifted, shr_below, be_bytes_8}
@@ -14,36 +14,32 @@ pub joined_window : (s t u word ninth : ℕ) (more : List ℕ) → t + s ≡ 64 
     → low_bits 64 (bit_or (word * 2 ^ s % 2 ^ 64) (ninth / 2 ^ u)) ≡ take 64 (drop s (low_bits 64 word ++ (low_bits 8 ninth ++ more)))
 joined_window s t u word ninth more whole byte small =
     let turned : 64 ≡ s + t = omega arith in
-    let moved : word * 2 ^ s % 2 ^ 64 ≡ (word % 2 ^ t) * 2 ^ s = ap (λ (w : ℕ). word * 2 ^ s % 2 ^ w) (sym whole) ∙ moved_word s t word in
-    let fits : ninth < 2 ^ (s + u) = rw byte small in
-    let low : ninth / 2 ^ u < 2 ^ s = shr_below ninth s u fits in
-    let number = ap (λ (x : ℕ). bit_or x (ninth / 2 ^ u)) moved ∙ or_shifted (word % 2 ^ t) s (ninth / 2 ^ u) low in
+    let low : ninth / 2 ^ u < 2 ^ s = shr_below ninth s u (rw byte small) in
     let left : low_bits 64 (bit_or (word * 2 ^ s % 2 ^ 64) (ninth / 2 ^ u)) ≡ low_bits t word ++ low_bits s (ninth / 2 ^ u) =
-    ap (low_bits 64) number ∙ ap (λ (w : ℕ). low_bits w ((word % 2 ^ t) * 2 ^ s + ninth / 2 ^ u)) (sym whole)
-    ∙ low_bits_joined t s (word % 2 ^ t) (ninth / 2 ^ u) low ∙ ap (λ (xs : List ℕ). xs ++ low_bits s (ninth / 2 ^ u)) (low_bits_mod t word)
-    in
+    cc (moved_word s t word, or_shifted (word % 2 ^ t) s (ninth / 2 ^ u) low, low_bits_joined t s (word % 2 ^ t) (ninth / 2 ^ u) low, low_bits_mod t word) in
     let high = low_bits s (word / 2 ^ t) in
+    let middle = low_bits s (ninth / 2 ^ u) in
+    let front = low_bits t word ++ middle in
     let rest = low_bits u ninth ++ more in
-    let cut : low_bits 64 word ++ (low_bits 8 ninth ++ more) ≡ high ++ (low_bits t word ++ (low_bits s (ninth / 2 ^ u) ++ rest)) =
-    ap (λ (xs : List ℕ). xs ++ (low_bits 8 ninth ++ more)) (ap (λ (w : ℕ). low_bits w word) turned ∙ low_bits_split s t word)
-    ∙ ap (λ (xs : List ℕ). (high ++ low_bits t word) ++ (xs ++ more)) (ap (λ (w : ℕ). low_bits w ninth) (sym byte) ∙ low_bits_split s u ninth)
-    ∙ append_assoc high (low_bits t word) _ ∙ ap (λ (xs : List ℕ). high ++ (low_bits t word ++ xs)) (append_assoc (low_bits s (ninth / 2 ^ u)) (low_bits u ninth) more)
-    in
-    let front = low_bits t word ++ low_bits s (ninth / 2 ^ u) in
-    let sized : length front ≡ 64 = length-append (low_bits t word) (low_bits s (ninth / 2 ^ u))
-    ∙ ap (λ (x : ℕ). x + length (low_bits s (ninth / 2 ^ u))) (length-low_bits t word) ∙ ap (λ (x : ℕ). t + x) (length-low_bits s (ninth / 2 ^ u)) ∙ whole in
-    left ∙ sym (ap (λ (xs : List ℕ). take 64 (drop s xs)) cut
-    ∙ ap (take 64) (drop_at high _ s (length-low_bits s (word / 2 ^ t)) ∙ sym (append_assoc (low_bits t word) (low_bits s (ninth / 2 ^ u)) rest)) ∙ take_at front rest 64 sized)
+    let cut : low_bits 64 word ++ (low_bits 8 ninth ++ more) ≡ high ++ (front ++ rest) = cc (
+      low_bits_split s t word,
+      low_bits_split s u ninth,
+      append_assoc high (low_bits t word) (middle ++ rest),
+      append_assoc middle (low_bits u ninth) more,
+      append_assoc (low_bits t word) middle rest,
+    ) in
+    let sized : length front ≡ 64 = omega (arith, length-append (low_bits t word) middle, length-low_bits t word, length-low_bits s (ninth / 2 ^ u)) in
+    cc (drop_at high (front ++ rest) s (length-low_bits s (word / 2 ^ t)), take_at front rest 64 sized)
 
 -- the same bits, by their place in all the bytes
 pub window_inside : (at q s : ℕ) (bytes : List ℕ) → at ≡ 8 * q + s → q + 9 ≤ length bytes → s < 8
     → take 64 (drop s (bits_of (drop q bytes))) ≡ take 64 (drop at (bits_of bytes ++ replicate 72 0))
 window_inside at q s bytes place within small =
     let size = length-bits_of bytes in
-    let here : drop s (bits_of (drop q bytes)) ≡ drop at (bits_of bytes) =
-    ap (drop s) (sym (drop-bits_of q bytes (omega arith))) ∙ drop-drop s (8 * q) (bits_of bytes) ∙ ap (λ (n : ℕ). drop n (bits_of bytes)) (sym place) in
     let left = length-drop at (bits_of bytes) in
-    ap (take 64) here ∙ sym (ap (take 64) (drop-append-le at (bits_of bytes) (replicate 72 0) (omega arith)) ∙ take-append-le 64 (drop at (bits_of bytes)) (replicate 72 0) (omega arith))
+    let whole = drop-bits_of q bytes (omega arith) in
+    let unfilled = drop-append-le at (bits_of bytes) (replicate 72 0) (omega arith) in
+    cc (drop-drop s (8 * q) (bits_of bytes), take-append-le 64 (drop at (bits_of bytes)) (replicate 72 0) (omega arith))
 
 -- the same if the bytes end early and zeros fill up
 pub window_padded : (at q s r : ℕ) (bytes : List ℕ) → at ≡ 8 * q + s → s < 8 → at ≤ 8 * length bytes → q + r ≡ length bytes → r < 9
@@ -51,36 +47,28 @@ pub window_padded : (at q s r : ℕ) (bytes : List ℕ) → at ≡ 8 * q + s →
 window_padded at q s r bytes place small within sized short =
     let size = length-bits_of bytes in
     let spare = 8 * (9 - r) in
-    let split : bits_of (drop q bytes ++ replicate (9 - r) 0) ≡ bits_of (drop q bytes) ++ replicate spare 0 =
-    bits_of-append (drop q bytes) (replicate (9 - r) 0) ∙ ap (λ (xs : List ℕ). bits_of (drop q bytes) ++ xs) (bits_of-zeros (9 - r)) in
     let rest = length-bits_of (drop q bytes) in
     let fewer = length-drop q bytes in
-    let here : drop s (bits_of (drop q bytes)) ≡ drop at (bits_of bytes) =
-    ap (drop s) (sym (drop-bits_of q bytes (omega arith))) ∙ drop-drop s (8 * q) (bits_of bytes) ∙ ap (λ (n : ℕ). drop n (bits_of bytes)) (sym place) in
     let left = length-drop at (bits_of bytes) in
-    let enough : 64 ≤ length (drop at (bits_of bytes)) + spare = omega arith in
-    ap (λ (xs : List ℕ). take 64 (drop s xs)) split ∙ ap (take 64) (drop-append-le s (bits_of (drop q bytes)) (replicate spare 0) (omega arith) ∙ ap (λ (xs : List ℕ). xs ++ replicate spare 0) here)
-    ∙ take_filled 64 spare 72 (drop at (bits_of bytes)) enough (omega arith)
-    ∙ ap (take 64) (sym (drop-append-le at (bits_of bytes) (replicate 72 0) (omega arith)))
+    let split = bits_of-append (drop q bytes) (replicate (9 - r) 0) in
+    let whole = drop-bits_of q bytes (omega arith) in
+    let unfilled = drop-append-le at (bits_of bytes) (replicate 72 0) (omega arith) in
+    let behind = drop-append-le s (bits_of (drop q bytes)) (replicate spare 0) (omega arith) in
+    cc (bits_of-zeros (9 - r), drop-drop s (8 * q) (bits_of bytes), take_filled 64 spare 72 (drop at (bits_of bytes)) (omega arith) (omega arith))
 
 -- the first eight bytes, one by one
 first_eight : (bytes : List ℕ) → 9 ≤ length bytes
     → take 8 bytes ≡ get_or bytes 0 0 ∷ get_or bytes 1 0 ∷ get_or bytes 2 0 ∷ get_or bytes 3 0 ∷ get_or bytes 4 0 ∷ get_or bytes 5 0 ∷ get_or bytes 6 0 ∷ get_or bytes 7 0 ∷ []
-first_eight bytes enough =
-    let e0 : bytes ≡ get_or bytes 0 0 ∷ drop 1 bytes = drop_more bytes 0 0 (omega arith) in
-    let e1 : drop 1 bytes ≡ get_or bytes 1 0 ∷ drop 2 bytes = drop_more bytes 1 0 (omega arith) in
-    let e2 : drop 2 bytes ≡ get_or bytes 2 0 ∷ drop 3 bytes = drop_more bytes 2 0 (omega arith) in
-    let e3 : drop 3 bytes ≡ get_or bytes 3 0 ∷ drop 4 bytes = drop_more bytes 3 0 (omega arith) in
-    let e4 : drop 4 bytes ≡ get_or bytes 4 0 ∷ drop 5 bytes = drop_more bytes 4 0 (omega arith) in
-    let e5 : drop 5 bytes ≡ get_or bytes 5 0 ∷ drop 6 bytes = drop_more bytes 5 0 (omega arith) in
-    let e6 : drop 6 bytes ≡ get_or bytes 6 0 ∷ drop 7 bytes = drop_more bytes 6 0 (omega arith) in
-    let e7 : drop 7 bytes ≡ get_or bytes 7 0 ∷ drop 8 bytes = drop_more bytes 7 0 (omega arith) in
-    ap (take 8) e0 ∙ ap (λ xs. get_or bytes 0 0 ∷ take 7 xs) e1 ∙ ap (λ xs. get_or bytes 0 0 ∷ get_or bytes 1 0 ∷ take 6 xs) e2
-    ∙ ap (λ xs. get_or bytes 0 0 ∷ get_or bytes 1 0 ∷ get_or bytes 2 0 ∷ take 5 xs) e3
-    ∙ ap (λ xs. get_or bytes 0 0 ∷ get_or bytes 1 0 ∷ get_or bytes 2 0 ∷ get_or bytes 3 0 ∷ take 4 xs) e4
-    ∙ ap (λ xs. get_or bytes 0 0 ∷ get_or bytes 1 0 ∷ get_or bytes 2 0 ∷ get_or bytes 3 0 ∷ get_or bytes 4 0 ∷ take 3 xs) e5
-    ∙ ap (λ xs. get_or bytes 0 0 ∷ get_or bytes 1 0 ∷ get_or bytes 2 0 ∷ get_or bytes 3 0 ∷ get_or bytes 4 0 ∷ get_or bytes 5 0 ∷ take 2 xs) e6
-    ∙ ap (λ xs. get_or bytes 0 0 ∷ get_or bytes 1 0 ∷ get_or bytes 2 0 ∷ get_or bytes 3 0 ∷ get_or bytes 4 0 ∷ get_or bytes 5 0 ∷ get_or bytes 6 0 ∷ take 1 xs) e7
+first_eight bytes enough = cc (
+  drop_more bytes 0 0 (omega arith),
+  drop_more bytes 1 0 (omega arith),
+  drop_more bytes 2 0 (omega arith),
+  drop_more bytes 3 0 (omega arith),
+  drop_more bytes 4 0 (omega arith),
+  drop_more bytes 5 0 (omega arith),
+  drop_more bytes 6 0 (omega arith),
+  drop_more bytes 7 0 (omega arith),
+)
 
 -- the bits of the bytes that one word and the byte after it are read from
 pub front_window_is : (s word : ℕ) (bytes : List ℕ) → 9 ≤ length bytes → s < 8 → ((i : ℕ) → get_or bytes i 0 < 256)
@@ -92,11 +80,6 @@ front_window_is s word bytes enough within small number =
       | inl inside ↦ rw (get_or-take 8 bytes i 0 inside) (small i)
       | inr past ↦ rw (get_or_past (take 8 bytes) i 0 (omega arith)) (omega arith)
     ] in
-    let from : word ≡ from_be_bytes w64 (take 8 bytes) = number ∙ ap (from_be_bytes w64) (sym (first_eight bytes enough)) in
-    let eight : bits_of (take 8 bytes) ≡ low_bits 64 word = ap bits_of (sym (be_bytes_8 (take 8 bytes) word few low from)) ∙ bits_of_to_be word in
-    let ninth : drop 8 bytes ≡ get_or bytes 8 0 ∷ drop 9 bytes = drop_more bytes 8 0 (omega arith) in
-    let all : bits_of bytes ≡ low_bits 64 word ++ (low_bits 8 (get_or bytes 8 0) ++ bits_of (drop 9 bytes)) =
-    ap bits_of (sym (take-append-drop 8 bytes)) ∙ bits_of-append (take 8 bytes) (drop 8 bytes) ∙ ap (λ xs. xs ++ bits_of (drop 8 bytes)) eight ∙ ap (λ xs. low_bits 64 word ++ bits_of xs) ninth
-    in
-    joined_window s (64 - s) (8 - s) word (get_or bytes 8 0) (bits_of (drop 9 bytes)) (omega arith) (omega arith) (small 8)
-    ∙ ap (λ xs. take 64 (drop s xs)) (sym all)
+    let eight = be_bytes_8 (take 8 bytes) word few low (cc (first_eight bytes enough)) in
+    let joined = joined_window s (64 - s) (8 - s) word (get_or bytes 8 0) (bits_of (drop 9 bytes)) (omega arith) (omega arith) (small 8) in
+    cc (bits_of_to_be word, take-append-drop 8 bytes, bits_of-append (take 8 bytes) (drop 8 bytes), drop_more bytes 8 0 (omega arith))

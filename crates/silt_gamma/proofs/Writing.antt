@@ -1,5 +1,5 @@
 -- Lemmas on appending bits.
-use Rattle.std.proofs.Common.{◌≡◌, ℕ, ◌+◌, ◌-◌, ◌*◌, ◌/◌, ◌%◌, ◌^◌, ◌<◌, ◌≤◌, List, [], ◌∷◌, ◌++◌, length, take, drop, get_or, replicate, sym, ap, ◌∙◌, add-zero, arith, length-append}
+use Rattle.std.proofs.Common.{◌≡◌, ℕ, ◌+◌, ◌-◌, ◌*◌, ◌/◌, ◌%◌, ◌^◌, ◌<◌, ◌≤◌, List, [], ◌∷◌, ◌++◌, length, take, get_or, replicate, sym, ap, ◌∙◌, add-zero, arith, length-append}
 use Rattle.std.proofs.lemmas.List.{append-nil, append_assoc, drop_all, drop_at, drop_more, get_or_append_left, length-replicate, length-take-le}
 use Rattle.std.proofs.lemmas.List.{replicate-append-replicate, set_at, take-append-drop, take_at}
 use Rattle.std.proofs.Math.Seq.{take-append-add}
@@ -16,7 +16,7 @@ use Rattle.silt_gamma.proofs.BitLists.{bits_of-append, bits_of-take, bits_of_to_
 
 -- how many bits the first ones are
 pub length_front : (len : ℕ) (bytes : List ℕ) → len ≤ 8 * length bytes → length (take len (bits_of bytes)) ≡ len
-length_front len bytes within = let size = length-bits_of bytes in length-take-le len (bits_of bytes) (omega arith)
+length_front len bytes within = length-take-le len (bits_of bytes) (omega (arith, length-bits_of bytes))
 
 -- a number of some bits at the top of a word
 pub aligned : (width value : ℕ) → 1 ≤ width → width ≤ 64 → value < 2 ^ width → (value * 2 ^ (64 - width) % 2 ^ 64 / 2 ^ (64 - width) ≡ value)
@@ -24,7 +24,7 @@ pub aligned : (width value : ℕ) → 1 ≤ width → width ≤ 64 → value < 2
 aligned width value some word small =
     let whole : width + (64 - width) ≡ 64 = omega arith in
     let fits : value * 2 ^ (64 - width) % 2 ^ 64 ≡ value * 2 ^ (64 - width) = shl_whole value width (64 - width) 64 small (omega arith) in
-    (ap (λ x. x / 2 ^ (64 - width)) fits ∙ shl-shr value (64 - width), ap (low_bits 64) fits ∙ ap (λ w. low_bits w (value * 2 ^ (64 - width))) (sym whole) ∙ low_bits_moved width (64 - width) value)
+    (cc (shl-shr value (64 - width)), cc (low_bits_moved width (64 - width) value))
 
 -- appending to bits that end with a whole byte adds bytes behind it
 pub append_whole : (width word len k : ℕ) (bytes more new : List ℕ) → HoldsBits bytes (take len (bits_of bytes)) → len ≤ 8 * length bytes → len % 8 ≡ 0 → width ≤ 64
@@ -36,20 +36,17 @@ append_whole width word len k bytes more new filled within whole small alone mad
     let count = length_front len bytes within in
     let size = ap length filled.code ∙ length-append bits (replicate filled.spare 0) ∙ ap (λ x. length bits + x) (length-replicate filled.spare 0) in
     let bytes_size = length-bits_of bytes in
-    let short = filled.short in
     let none : filled.spare ≡ 0 = omega arith in
-    let old : bits_of bytes ≡ bits = filled.code ∙ ap (λ n. bits ++ replicate n 0) none ∙ append-nil bits in
-    let eight : length more ≡ 8 = let e = ap length (ap bits_of made ∙ bits_of_to_be word) in let f = length-bits_of more in let g = length-low_bits 64 word in omega arith in
+    let old : bits_of bytes ≡ bits = cc (filled.code, append-nil bits) in
+    let made_bits : bits_of more ≡ low_bits 64 word = cc (bits_of_to_be word) in
+    let eight : length more ≡ 8 = omega (arith, ap length made_bits, length-bits_of more, length-low_bits 64 word) in
     let wide = length-low_bits width (word / 2 ^ (64 - width)) in
     let added : bits_of (take k more) ≡ top ++ replicate (8 * k - width) 0 =
-    bits_of-take k more (omega arith) ∙ ap (take (8 * k)) (ap bits_of made ∙ bits_of_to_be word ∙ alone)
-    ∙ take_into_zeros top (8 * k) (64 - width) (omega arith) (omega arith) ∙ ap (λ n. top ++ replicate (8 * k - n) 0) wide
-    in
+    cc (bits_of-take k more (omega arith), take_into_zeros top (8 * k) (64 - width) (omega arith) (omega arith)) in
     record {
       spare = 8 * k - width;
       short = omega arith;
-      code = ap bits_of is ∙ bits_of-append bytes (take k more)
-          ∙ ap (λ xs. xs ++ bits_of (take k more)) old ∙ ap (λ xs. bits ++ xs) added ∙ sym (append_assoc bits top (replicate (8 * k - width) 0));
+      code = cc (bits_of-append bytes (take k more), append_assoc bits top (replicate (8 * k - width) 0));
     }
 
 -- what of a word goes into the rest of a byte and into the bytes behind it
@@ -58,19 +55,19 @@ tail_bits : (f k width word : ℕ) → f ≤ 8 → k ≤ 8 → width ≤ 64 → 
 tail_bits f k width word byte few small within alone =
     let top = low_bits width (word / 2 ^ (64 - width)) in
     let front = low_bits f (word / 2 ^ (64 - f)) in
+    let rest = low_bits (64 - f) word ++ replicate f 0 in
     let whole : (64 - f) + f ≡ 64 = omega arith in
     let turned : f + (64 - f) ≡ 64 = omega arith in
-    let moved : low_bits 64 (word * 2 ^ f % 2 ^ 64) ≡ low_bits (64 - f) word ++ replicate f 0 =
-    low_bits_mod 64 (word * 2 ^ f) ∙ ap (λ w. low_bits w (word * 2 ^ f)) (sym whole) ∙ low_bits_moved (64 - f) f word in
-    let joined : front ++ (low_bits (64 - f) word ++ replicate f 0) ≡ top ++ replicate ((64 - width) + f) 0 =
-    sym (append_assoc front (low_bits (64 - f) word) (replicate f 0)) ∙ ap (λ xs. xs ++ replicate f 0) (sym (low_bits_split f (64 - f) word) ∙ ap (λ w. low_bits w word) turned ∙ alone)
-    ∙ append_assoc top (replicate (64 - width) 0) (replicate f 0) ∙ ap (λ xs. top ++ xs) (replicate-append-replicate (64 - width) f 0)
-    in
+    let moved : low_bits 64 (word * 2 ^ f % 2 ^ 64) ≡ rest = cc (low_bits_mod 64 (word * 2 ^ f), low_bits_moved (64 - f) f word) in
+    let joined : front ++ rest ≡ top ++ replicate ((64 - width) + f) 0 = cc (
+      append_assoc front (low_bits (64 - f) word) (replicate f 0),
+      low_bits_split f (64 - f) word,
+      append_assoc top (replicate (64 - width) 0) (replicate f 0),
+      replicate-append-replicate {A = ℕ} (64 - width) f 0,
+    ) in
     let wide = length-low_bits width (word / 2 ^ (64 - width)) in
     let sized = length-low_bits f (word / 2 ^ (64 - f)) in
-    ap (λ xs. front ++ take (8 * k) xs) moved ∙ sym (take-append-add front (low_bits (64 - f) word ++ replicate f 0) (8 * k))
-    ∙ ap (λ n. take (n + 8 * k) (front ++ (low_bits (64 - f) word ++ replicate f 0))) sized ∙ ap (take (f + 8 * k)) joined
-    ∙ take_into_zeros top (f + 8 * k) ((64 - width) + f) (omega arith) (omega arith) ∙ ap (λ n. top ++ replicate (f + 8 * k - n) 0) wide
+    cc (take-append-add front rest (8 * k), take_into_zeros top (f + 8 * k) ((64 - width) + f) (omega arith) (omega arith))
 
 -- zeros at the end of a number leave room for another
 low_zeros : (f b x : ℕ) → low_bits f b ≡ replicate f 0 → x < 2 ^ f → bit_or b x ≡ b / 2 ^ f * 2 ^ f + x
@@ -94,27 +91,23 @@ last_byte len q u f b bytes more filled within place some byte read =
     let count = length_front len bytes within in
     let size = ap length filled.code ∙ length-append bits (replicate filled.spare 0) ∙ ap (λ x. length bits + x) (length-replicate filled.spare 0) in
     let bytes_size = length-bits_of bytes in
-    let short = filled.short in
     let many : length bytes ≡ q + 1 = omega arith in
     let spare : filled.spare ≡ f = omega arith in
     let here : q < length bytes = omega arith in
     let is : bytes ≡ take q bytes ++ b ∷ [] =
-    sym (take-append-drop q bytes) ∙ ap (λ xs. take q bytes ++ xs)
-    (drop_more bytes q b here ∙ ap (λ x. x ∷ drop (q + 1) bytes) (sym (read ∙ get_or_append_left bytes more b q here)) ∙ ap (λ xs. b ∷ xs) (drop_all (q + 1) bytes (omega arith)))
-    in
+    cc (take-append-drop q bytes, drop_more bytes q b here, get_or_append_left bytes more b q here, drop_all (q + 1) bytes (omega arith)) in
     let front = length-take-le q bytes (omega arith) in
-    let eight : low_bits 8 b ≡ low_bits u (b / 2 ^ f) ++ low_bits f b = ap (λ w. low_bits w b) (sym byte) ∙ low_bits_split u f b in
-    let before = bits_of (take q bytes) ++ low_bits u (b / 2 ^ f) in
+    let whole = bits_of (take q bytes) in
+    let top = low_bits u (b / 2 ^ f) in
+    let before = whole ++ top in
     let all : bits_of bytes ≡ before ++ low_bits f b =
-    ap bits_of is ∙ bits_of-append (take q bytes) (b ∷ []) ∙ ap (λ xs. bits_of (take q bytes) ++ xs) (append-nil (low_bits 8 b) ∙ eight)
-    ∙ sym (append_assoc (bits_of (take q bytes)) (low_bits u (b / 2 ^ f)) (low_bits f b)) in
-    let long : length before ≡ len =
-    let a = length-append (bits_of (take q bytes)) (low_bits u (b / 2 ^ f)) in let d = length-bits_of (take q bytes) in let e = length-low_bits u (b / 2 ^ f) in omega arith in
+    cc (bits_of-append (take q bytes) (b ∷ []), append-nil (low_bits 8 b), low_bits_split u f b, append_assoc whole top (low_bits f b)) in
+    let long : length before ≡ len = omega (arith, length-append whole top, length-bits_of (take q bytes), length-low_bits u (b / 2 ^ f)) in
     record {
       bytes_are = is;
       front_len = front;
-      bits_are = ap (take len) all ∙ take_at before (low_bits f b) len long;
-      zeros = sym (drop_at before (low_bits f b) len long) ∙ sym (ap (drop len) all) ∙ ap (drop len) filled.code ∙ drop_at bits (replicate filled.spare 0) len count ∙ ap (λ n. replicate n 0) spare;
+      bits_are = cc (take_at before (low_bits f b) len long);
+      zeros = cc (filled.code, drop_at before (low_bits f b) len long, drop_at bits (replicate filled.spare 0) len count);
     }
 
 -- appending to bits that end within a byte fills that byte first, and adds bytes behind it
@@ -128,32 +121,30 @@ append_partly width word len k b bytes more new filled within some one small fit
     let f = 8 - u in
     let x = word / 2 ^ (56 + u) in
     let top = low_bits width (word / 2 ^ (64 - width)) in
+    let before = bits_of (take q bytes) in
+    let behind = bits_of (take k more) in
     let last = last_byte len q u f b bytes (take k more) filled within (omega arith) some (omega arith) read in
     let turned : 56 + u ≡ 64 - f = omega arith in
     let whole : 64 ≡ f + (56 + u) = omega arith in
-    let wide : word < 2 ^ (f + (56 + u)) = rw (← whole) fits in
-    let low : x < 2 ^ f = shr_below word f (56 + u) wide in
-    let value : low_bits 8 (bit_or b x) ≡ low_bits u (b / 2 ^ f) ++ low_bits f x =
-    let eight : 8 ≡ u + f = omega arith in ap (low_bits 8) (low_zeros f b x last.zeros low) ∙ ap (λ w. low_bits w (b / 2 ^ f * 2 ^ f + x)) eight ∙ low_bits_joined u f (b / 2 ^ f) x low in
-    let eight : length more ≡ 8 = let e = ap length (ap bits_of made ∙ bits_of_to_be (word * 2 ^ f % 2 ^ 64)) in let g =
-    length-bits_of more in let h = length-low_bits 64 (word * 2 ^ f % 2 ^ 64) in omega arith in
-    let behind : bits_of (take k more) ≡ take (8 * k) (low_bits 64 (word * 2 ^ f % 2 ^ 64)) =
-    bits_of-take k more (omega arith) ∙ ap (take (8 * k)) (ap bits_of made ∙ bits_of_to_be (word * 2 ^ f % 2 ^ 64)) in
-    let front : low_bits f x ≡ low_bits f (word / 2 ^ (64 - f)) = ap (λ n. low_bits f (word / 2 ^ n)) turned in
-    let tail : low_bits f x ++ bits_of (take k more) ≡ top ++ replicate (f + 8 * k - width) 0 =
-    ap (λ xs. xs ++ bits_of (take k more)) front ∙ ap (λ xs. low_bits f (word / 2 ^ (64 - f)) ++ xs) behind ∙ tail_bits f k width word (omega arith) (omega arith) small (omega arith) alone in
+    let low : x < 2 ^ f = shr_below word f (56 + u) (rw (← whole) fits) in
+    let eight : 8 ≡ u + f = omega arith in
+    let value : low_bits 8 (bit_or b x) ≡ low_bits u (b / 2 ^ f) ++ low_bits f x = cc (low_zeros f b x last.zeros low, low_bits_joined u f (b / 2 ^ f) x low) in
+    let made_bits : bits_of more ≡ low_bits 64 (word * 2 ^ f % 2 ^ 64) = cc (bits_of_to_be (word * 2 ^ f % 2 ^ 64)) in
+    let size : length more ≡ 8 = omega (arith, ap length made_bits, length-bits_of more, length-low_bits 64 (word * 2 ^ f % 2 ^ 64)) in
+    let tail : low_bits f x ++ behind ≡ top ++ replicate (f + 8 * k - width) 0 =
+    cc (bits_of-take k more (omega arith), tail_bits f k width word (omega arith) (omega arith) small (omega arith) alone) in
     let placed : new ≡ take q bytes ++ bit_or b x ∷ take k more =
-    is ∙ ap (λ xs. set (xs ++ take k more) q (bit_or b x)) last.bytes_are ∙ ap (λ xs. set xs q (bit_or b x)) (append_assoc (take q bytes) (b ∷ []) (take k more))
-    ∙ set_at (take q bytes) b (take k more) (bit_or b x) q last.front_len in
+    cc (last.bytes_are, append_assoc (take q bytes) (b ∷ []) (take k more), set_at (take q bytes) b (take k more) (bit_or b x) q last.front_len) in
     record {
       spare = f + 8 * k - width;
       short = omega arith;
-      code =
-          ap bits_of placed ∙ bits_of-append (take q bytes) (bit_or b x ∷ take k more) ∙ ap (λ xs. bits_of (take q bytes) ++ (xs ++ bits_of (take k more))) value
-          ∙ ap (λ xs. bits_of (take q bytes) ++ xs) (append_assoc (low_bits u (b / 2 ^ f)) (low_bits f x) (bits_of (take k more)))
-          ∙ sym (append_assoc (bits_of (take q bytes)) (low_bits u (b / 2 ^ f)) (low_bits f x ++ bits_of (take k more)))
-          ∙ ap (λ xs. xs ++ (low_bits f x ++ bits_of (take k more))) (sym last.bits_are) ∙ ap (λ xs. take len (bits_of bytes) ++ xs) tail
-          ∙ sym (append_assoc (take len (bits_of bytes)) top (replicate (f + 8 * k - width) 0));
+      code = cc (
+        bits_of-append (take q bytes) (bit_or b x ∷ take k more),
+        append_assoc (low_bits u (b / 2 ^ f)) (low_bits f x) behind,
+        append_assoc before (low_bits u (b / 2 ^ f)) (low_bits f x ++ behind),
+        last.bits_are,
+        append_assoc (take len (bits_of bytes)) top (replicate (f + 8 * k - width) 0),
+      );
     }
 
 -- what a writer's fields mean
@@ -167,14 +158,13 @@ pub holds_after : (len width value word after : ℕ) (bytes new old : List ℕ) 
     → HoldsBits new (take len (bits_of bytes) ++ low_bits width word) → Holds after new (old ++ low_bits width value)
 holds_after len width value word after bytes new old sum within view same filled =
     let written = old ++ low_bits width value in
-    let is : take len (bits_of bytes) ++ low_bits width word ≡ written = ap (λ xs. xs ++ low_bits width word) view ∙ ap (λ x. old ++ low_bits width x) same in
-    let code : bits_of new ≡ written ++ replicate filled.spare 0 = filled.code ∙ ap (λ xs. xs ++ replicate filled.spare 0) is in
-    let count : length old ≡ len = sym (ap length view) ∙ length_front len bytes within in
-    let size : length written ≡ after = let a = length-append old (low_bits width value) in let b = length-low_bits width value in omega arith in
+    let code : bits_of new ≡ written ++ replicate filled.spare 0 = cc (filled.code) in
+    let count = length_front len bytes within in
+    let size : length written ≡ after = omega (arith, ap length view, length-append old (low_bits width value), length-low_bits width value) in
     let all = ap length code ∙ length-append written (replicate filled.spare 0) in
     let bytes_size = length-bits_of new in
-    let shown : take after (bits_of new) ≡ written = ap (take after) code ∙ take_at written (replicate filled.spare 0) after size in
-    record { view = shown; filled = record { spare = filled.spare; short = filled.short; code = code ∙ ap (λ xs. xs ++ replicate filled.spare 0) (sym shown) }; within = omega arith }
+    let shown : take after (bits_of new) ≡ written = cc (take_at written (replicate filled.spare 0) after size) in
+    record { view = shown; filled = record { spare = filled.spare; short = filled.short; code = cc }; within = omega arith }
 
 -- the bits of a word that a byte with some bits has room for
 pub high_bits_fit : (u word : ℕ) → u < 8 → word < 2 ^ 64 → word / 2 ^ (56 + u) < 2 ^ 8
