@@ -1,13 +1,10 @@
 -- The slot of a key is the slot of a candidate.
-use Rattle.std.proofs.Common.{◌≡◌, ℕ, inl, inr, Bool, true, false, cond, List, [], ◌∷◌, length, find, get_or, Option, Some, None, option_map, refl, sym, ap, ◌∙◌, arith, bytes_eq}
+use Rattle.silt_cuckoo.proofs.Common.{cases_Bool, ◌≡◌, ℕ, inl, inr, Bool, true, false, List, [], ◌∷◌, length, find, get_or, Option, Some, None, option_map, refl, sym, ap, ◌∙◌, arith}
+use Rattle.silt_cuckoo.proofs.Common.{bytes_eq-Decides, Candidate, Slots, Entry, place_at, first_bucket, second_bucket, key_pair, candidates_of, places_of, is_entry_of, slot_of_key}
+use Rattle.std.proofs.Common.{bytes_eq}
 use Rattle.std.specs.List.{AllByRecursion}
 use Rattle.std.proofs.lemmas.List.Elements.{recursion_from_All}
-use Rattle.std.proofs.lemmas.Slice.Eq.{bytes_eq-Decides}
-use Rattle.silt_cuckoo.specs.declared.lookup.Candidate.{Candidate}
-use Rattle.silt_cuckoo.specs.Slots.{Slots, Entry, place_at}
-use Rattle.silt_cuckoo.specs.Keys.{first_bucket, second_bucket, key_pair}
-use Rattle.silt_cuckoo.specs.Lookup.{candidates_of, places_of}
-use Rattle.silt_cuckoo.specs.Index.{is_entry_of, slot_of_key, candidate_of_key}
+use Rattle.silt_cuckoo.specs.Index.{candidate_of_key}
 use Rattle.silt_cuckoo.specs.Laws.{FindLaw}
 use Rattle.silt_cuckoo.proofs.Search.{found_in_range, none_in_range}
 use Rattle.silt_cuckoo.proofs.Paths.{IsOn, entry_inside}
@@ -18,22 +15,18 @@ use Rattle.silt_cuckoo.proofs.Indexing.{has_key_is, is_has_key, newest_apart}
 -- what a search among candidates finds passes the test and is in its slot
 found_candidate : (slots : Slots) (p : Candidate → Bool) (cs : List Candidate) (c : Candidate) → AllByRecursion (Stands slots) cs → find p cs ≡ Some c → (p c ≡ true) × Stands slots c
 found_candidate slots p [] c stand e = absurd (cc)
-found_candidate slots p (x ∷ cs) c stand e = go (p x) refl (found_candidate slots p cs c stand.1) e
-  where
-    go : (b : Bool) → p x ≡ b → (find p cs ≡ Some c → (p c ≡ true) × Stands slots c) → cond b (Some x) (find p cs) ≡ Some c → (p c ≡ true) × Stands slots c
-    go true is rest h = let same : x ≡ c = cc in rw (← same) (is, stand.0)
-    go false is rest h = rest h
+found_candidate slots p (x ∷ cs) c stand e = elim (cases_Bool (p x)) [
+  | inl is ↦ let same : x ≡ c = cc in rw (← same) (is, stand.0)
+  | inr is ↦ found_candidate slots p cs c stand.1 (cc)
+]
 
 -- if nothing is found, the test fails at each place
 none_found : (p : ℕ → Bool) (cs : List Candidate) (place : ℕ) → find (λ (c : Candidate). p c.place) cs ≡ None → IsOn place (places_of cs) → p place ≡ false
 none_found p [] place e on = absurd on
-none_found p (x ∷ cs) place e on = go (p x.place) refl (none_found p cs place) e on
-  where
-    go : (b : Bool) → p x.place ≡ b → (find (λ (c : Candidate). p c.place) cs ≡ None → IsOn place (places_of cs) → p place ≡ false)
-        → cond b (Some x) (find (λ (c : Candidate). p c.place) cs) ≡ None → IsOn place (places_of (x ∷ cs)) → p place ≡ false
-    go true is rest h on = absurd (cc)
-    go false is rest h (inl same) = ap p same ∙ is
-    go false is rest h (inr on) = rest h on
+none_found p (x ∷ cs) place e on = elim (cases_Bool (p x.place)) [
+  | inl is ↦ absurd (cc)
+  | inr is ↦ elim on [ inl same ↦ cc | inr on ↦ none_found p cs place (cc) on ]
+]
 
 -- the slot of a key is that of the first candidate with the key
 pub find_law : FindLaw

@@ -1,16 +1,12 @@
 -- What the table of some keys holds: the newest place of each key.
-use Rattle.std.proofs.Common.{◌≡◌, ◌≢◌, inl, inr, ℕ, zero, suc, ◌*◌, ◌/◌, ◌<◌, true, false, List, [], ◌∷◌, ◌++◌, length, fold, get_or, Option, Some, None}
-use Rattle.std.proofs.Common.{option_map, unwrap_or, refl, sym, subst, ap, ◌∙◌, arith, length-append, length-set, bytes_eq}
-use Rattle.std.proofs.lemmas.Slice.Eq.{bytes_eq-Decides}
-use Rattle.std.proofs.lemmas.List.{length-replicate}
-use Rattle.std.proofs.lemmas.Bool.{cases_eq, cases_lt, cases_Bool, eq-eqb, ne_eqb}
-use Rattle.silt_cuckoo.specs.Slots.{Slots, Entry, IsTable, IsBucketCount, HoldsPlace, bucket_count, empty_slots, entry_at, tag_at, place_at}
-use Rattle.silt_cuckoo.specs.Placing.{placed, replaced}
-use Rattle.silt_cuckoo.specs.Pairs.{has_place, AddsPair, TakesSlot}
-use Rattle.silt_cuckoo.specs.Keys.{first_bucket, second_bucket, key_pair}
-use Rattle.silt_cuckoo.specs.Index.{Index, IsNewest, Indexes, is_entry_of, slot_of_key, placed_or_replaced, added, indexed}
+use Rattle.silt_cuckoo.proofs.Common.{◌≡◌, ◌≢◌, inl, inr, ℕ, zero, suc, ◌*◌, ◌/◌, ◌<◌, true, List, [], ◌∷◌, ◌++◌, length, fold, get_or, Some, None, option_map, refl, sym, subst, ap, ◌∙◌, arith}
+use Rattle.silt_cuckoo.proofs.Common.{length-append, length-set, bytes_eq-Decides, length-replicate, cases_eq, cases_lt, cases_Bool, Slots, Entry, IsTable, IsBucketCount, HoldsPlace, bucket_count}
+use Rattle.silt_cuckoo.proofs.Common.{empty_slots, entry_at, tag_at, place_at, placed, replaced, has_place, AddsPair, TakesSlot, first_bucket, second_bucket, key_pair, Index, is_entry_of}
+use Rattle.silt_cuckoo.proofs.Common.{slot_of_key}
+use Rattle.std.proofs.lemmas.Bool.{eq-eqb, ne_eqb, cases_order}
+use Rattle.silt_cuckoo.specs.Index.{IsNewest, Indexes, added, indexed}
 use Rattle.silt_cuckoo.specs.Laws.{IndexLaw}
-use Rattle.silt_cuckoo.proofs.Search.{found_in_range, none_in_range}
+use Rattle.silt_cuckoo.proofs.Search.{found_in_range, none_in_range, some_or_none}
 use Rattle.silt_cuckoo.proofs.Paths.{entry_inside}
 use Rattle.silt_cuckoo.proofs.Placed.{has_entry, has_place_is, is_has_place, table_pairs-held, table_law, pair_law}
 use Rattle.silt_cuckoo.proofs.Tables.{empty_table, entry_at-free}
@@ -55,22 +51,18 @@ before_newest keys key place (low, none) other =
 
 -- a key has one newest place
 pub newest_apart : (keys : List (List ℕ)) (p q : ℕ) → IsNewest keys p → IsNewest keys q → get_or keys p [] ≡ get_or keys q [] → p ≡ q
-newest_apart keys p q (p_low, p_none) (q_low, q_none) same = elim (cases_lt p q) [
-  | inl below ↦ absurd (p_none q below q_low (sym same))
-  | inr above ↦ elim (cases_eq p q) [
-    | inl is ↦ is
-    | inr other ↦ absurd (q_none p (omega arith) p_low same)
-  ]
+newest_apart keys p q (p_low, p_none) (q_low, q_none) same = elim (cases_order p q) [
+  | inl is ↦ is
+  | inr (inl below) ↦ absurd (p_none q below q_low (sym same))
+  | inr (inr above) ↦ absurd (q_none p above p_low same)
 ]
 
 -- a slot that has the key
 pub has_key_is : (keys : List (List ℕ)) (slots : Slots) (key : List ℕ) (slot : ℕ) → is_entry_of keys slots key slot ≡ true → (e : Entry) × (entry_at slots slot ≡ Some e) × (get_or keys e.1 [] ≡ key)
-has_key_is keys slots key slot h = go (entry_at slots slot) refl h
-  where
-    go : (o : Option Entry) → entry_at slots slot ≡ o → unwrap_or (option_map (λ (e : Entry). bytes_eq (get_or keys e.1 []) key) o) false ≡ true
-        → (e : Entry) × (entry_at slots slot ≡ Some e) × (get_or keys e.1 [] ≡ key)
-    go None is h = absurd (cc)
-    go (Some e) is h = (e, is, (bytes_eq-Decides (get_or keys e.1 []) key).0 h)
+has_key_is keys slots key slot h = elim (some_or_none (entry_at slots slot)) [
+  | inl none ↦ absurd (cc)
+  | inr (e, is) ↦ (e, is, (bytes_eq-Decides (get_or keys e.1 []) key).0 (cc))
+]
 
 -- a slot whose entry is that of the key passes the test
 pub is_has_key : (keys : List (List ℕ)) (slots : Slots) (key : List ℕ) (slot : ℕ) (e : Entry) → entry_at slots slot ≡ Some e → get_or keys e.1 [] ≡ key → is_entry_of keys slots key slot ≡ true
@@ -197,40 +189,30 @@ indexes_none buckets count =
 -- one key more
 step : (buckets : ℕ) (i j : Index) (key : List ℕ) → Indexes i.slots buckets i.keys → added buckets i key ≡ Some j → Indexes j.slots buckets j.keys
 unfolding added
-step buckets i j key index e = go (slot_of_key i.keys i.slots key) refl e
-  where
-    go : (s : Option ℕ) → slot_of_key i.keys i.slots key ≡ s
-        → option_map (λ slots. record { keys = i.keys ++ key ∷ []; slots = slots }) (placed_or_replaced buckets i.slots key (length i.keys) s) ≡ Some j → Indexes j.slots buckets j.keys
-    go (Some slot) found h =
-        let is : record { keys = i.keys ++ key ∷ []; slots = replaced i.slots slot (length i.keys) } ≡ j = cc in
-        rw (← is) (step_replaced i.slots buckets slot i.keys key index found)
-    go None none h = place (placed i.slots (first_bucket buckets key) (second_bucket buckets key) (length i.keys)) refl h
-      where
-        place : (r : Option Slots) → placed i.slots (first_bucket buckets key) (second_bucket buckets key) (length i.keys) ≡ r
-            → option_map (λ slots. record { keys = i.keys ++ key ∷ []; slots = slots }) r ≡ Some j → Indexes j.slots buckets j.keys
-        place None is h = absurd (cc)
-        place (Some new) is h =
-            let same : record { keys = i.keys ++ key ∷ []; slots = new } ≡ j = cc in
-            rw (← same) (step_placed i.slots new buckets i.keys key index none is)
+step buckets i j key index e = elim (some_or_none (slot_of_key i.keys i.slots key)) [
+  | inr (slot, found) ↦
+      let is : record { keys = i.keys ++ key ∷ []; slots = replaced i.slots slot (length i.keys) } ≡ j = cc in
+      rw (← is) (step_replaced i.slots buckets slot i.keys key index found)
+  | inl none ↦ elim (some_or_none (placed i.slots (first_bucket buckets key) (second_bucket buckets key) (length i.keys))) [
+    | inl full ↦ absurd (cc)
+    | inr (new, is) ↦ let same : record { keys = i.keys ++ key ∷ []; slots = new } ≡ j = cc in rw (← same) (step_placed i.slots new buckets i.keys key index none is)
+  ]
+]
 
 -- and many
 steps : (buckets : ℕ) (keys : List (List ℕ)) (i j : Index) → Indexes i.slots buckets i.keys → fold (next_index buckets) (Some i) keys ≡ Some j → Indexes j.slots buckets j.keys
 steps buckets [] i j index e = let same : i ≡ j = cc in rw (← same) index
-steps buckets (key ∷ keys) i j index e = go (added buckets i key) refl (λ k. steps buckets keys k j) e
-  where
-    go : (r : Option Index) → added buckets i key ≡ r → ((k : Index) → Indexes k.slots buckets k.keys → fold (next_index buckets) (Some k) keys ≡ Some j → Indexes j.slots buckets j.keys)
-        → fold (next_index buckets) r keys ≡ Some j → Indexes j.slots buckets j.keys
-    go None is rest h = let none = stays_none buckets keys in absurd (cc)
-    go (Some k) is rest h = rest k (step buckets i k key index is) h
+steps buckets (key ∷ keys) i j index e = elim (some_or_none (added buckets i key)) [
+  | inl none ↦ absurd (cc (stays_none buckets keys))
+  | inr (k, is) ↦ steps buckets keys k j (step buckets i k key index is) (cc)
+]
 
 -- the table of some keys holds the newest place of each
 pub index_law : IndexLaw
 unfolding indexed
-index_law buckets keys slots count e = go (indexed buckets keys) refl e
-  where
-    go : (r : Option Index) → indexed buckets keys ≡ r → option_map (λ (index : Index). index.slots) r ≡ Some slots → Indexes slots buckets keys
-    go None is h = absurd (cc)
-    go (Some j) is h =
-        let same : j.slots ≡ slots = cc in
-        let made = steps buckets keys (record { keys = []; slots = empty_slots buckets }) j (indexes_none buckets count) is in
-        rw (← same, ← indexed_keys buckets keys j is) made
+index_law buckets keys slots count e = elim (some_or_none (indexed buckets keys)) [
+  | inl none ↦ absurd (cc)
+  | inr (j, is) ↦
+      let same : j.slots ≡ slots = cc in
+      rw (← same, ← indexed_keys buckets keys j is) (steps buckets keys (record { keys = []; slots = empty_slots buckets }) j (indexes_none buckets count) is)
+]

@@ -1,7 +1,9 @@
 -- The keys of an index, and one key more.
-use Rattle.std.proofs.Common.{◌≡◌, ℕ, List, [], ◌∷◌, ◌++◌, length, fold, Option, Some, None, option_map, option_and_then, refl, sym, ap, ◌∙◌, append_assoc, append-nil}
-use Rattle.silt_cuckoo.specs.Slots.{Slots, empty_slots}
-use Rattle.silt_cuckoo.specs.Index.{Index, added, indexed, placed_or_replaced, slot_of_key}
+use Rattle.silt_cuckoo.proofs.Common.{◌≡◌, ℕ, List, [], ◌∷◌, ◌++◌, length, fold, Option, Some, None, option_map, refl, ap, ◌∙◌, append_assoc, append-nil, inl, inr, Slots, empty_slots, Index}
+use Rattle.silt_cuckoo.proofs.Common.{slot_of_key}
+use Rattle.silt_cuckoo.proofs.Search.{some_or_none}
+use Rattle.std.proofs.Common.{option_and_then}
+use Rattle.silt_cuckoo.specs.Index.{added, indexed, placed_or_replaced}
 use Rattle.silt_cuckoo.specs.Laws.{PushLaw}
 
 -- a fold over two lists
@@ -26,13 +28,11 @@ stays_none buckets (key ∷ keys) = stays_none buckets keys
 -- an index holds the keys that it was made of
 fold_keys : (buckets : ℕ) (keys : List (List ℕ)) (i j : Index) → fold (next_index buckets) (Some i) keys ≡ Some j → j.keys ≡ i.keys ++ keys
 unfolding added
-fold_keys buckets [] i j e = let same : i ≡ j = cc in ap (λ (x : Index). x.keys) (sym same) ∙ sym (append-nil i.keys)
-fold_keys buckets (key ∷ keys) i j e = go (placed_or_replaced buckets i.slots key (length i.keys) (slot_of_key i.keys i.slots key)) (λ k. fold_keys buckets keys k j) e
-  where
-    go : (r : Option Slots) → ((k : Index) → fold (next_index buckets) (Some k) keys ≡ Some j → j.keys ≡ k.keys ++ keys)
-        → fold (next_index buckets) (option_map (λ slots. record { keys = i.keys ++ key ∷ []; slots = slots }) r) keys ≡ Some j → j.keys ≡ i.keys ++ key ∷ keys
-    go None others e = let none = stays_none buckets keys in absurd (cc)
-    go (Some slots) others e = others (record { keys = i.keys ++ key ∷ []; slots = slots }) e ∙ append_assoc i.keys (key ∷ []) keys
+fold_keys buckets [] i j e = cc (append-nil i.keys)
+fold_keys buckets (key ∷ keys) i j e = elim (some_or_none (placed_or_replaced buckets i.slots key (length i.keys) (slot_of_key i.keys i.slots key))) [
+  | inl none ↦ absurd (cc (stays_none buckets keys))
+  | inr (slots, is) ↦ fold_keys buckets keys (record { keys = i.keys ++ key ∷ []; slots = slots }) j (cc) ∙ append_assoc i.keys (key ∷ []) keys
+]
 
 -- the index of some keys holds these keys
 pub indexed_keys : (buckets : ℕ) (keys : List (List ℕ)) (j : Index) → indexed buckets keys ≡ Some j → j.keys ≡ keys
@@ -52,5 +52,4 @@ push_law buckets keys key = ap (option_map (λ (x : Index). x.slots)) (indexed_a
         ≡ option_and_then (λ slots. placed_or_replaced buckets slots key (length keys) (slot_of_key keys slots key)) (option_map (λ (x : Index). x.slots) r)
     go None e = refl
     go (Some i) e =
-        table_of (i.keys ++ key ∷ []) (placed_or_replaced buckets i.slots key (length i.keys) (slot_of_key i.keys i.slots key))
-        ∙ ap (λ ks. placed_or_replaced buckets i.slots key (length ks) (slot_of_key ks i.slots key)) (indexed_keys buckets keys i e)
+        cc (table_of (i.keys ++ key ∷ []) (placed_or_replaced buckets i.slots key (length i.keys) (slot_of_key i.keys i.slots key)), indexed_keys buckets keys i e)

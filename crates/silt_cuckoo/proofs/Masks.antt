@@ -1,6 +1,6 @@
 -- A remainder by a power of two, as a mask of its bits.
-use Rattle.std.proofs.Common.{◌≡◌, ℕ, ◌+◌, ◌-◌, ◌*◌, ◌%◌, ◌^◌, ◌≤◌, ◌<◌, bit_and, sym, ap, ◌∙◌, arith}
-use Rattle.std.specs.Int.RustNames.{count_ones}
+use Rattle.silt_cuckoo.proofs.Common.{◌≡◌, ℕ, ◌+◌, ◌-◌, ◌*◌, ◌%◌, ◌≤◌, ◌<◌, ap, ◌∙◌, arith, count_ones}
+use Rattle.std.proofs.Common.{◌^◌, bit_and}
 use Rattle.std.proofs.lemmas.Nat.{and_mask, leading_top, ones_cat, zero_from_ones}
 use Rattle.std.proofs.Math.Nat.{pow-succ'}
 
@@ -21,6 +21,4 @@ one_bit n some fits one =
 
 -- a mask of the bits below it is a remainder
 pub masked : (n power : ℕ) → 0 < power → power < 2 ^ 32 → count_ones power ≡ 1 → bit_and n (power - 1) ≡ n % power
-masked n power some fits one =
-    let is = one_bit power some fits one in
-    ap (λ p. bit_and n (p - 1)) is.1 ∙ and_mask n is.0 ∙ ap (λ p. n % p) (sym is.1)
+masked n power some fits one = let is = one_bit power some fits one in rw is.1 (and_mask n is.0)

@@ -1,43 +1,35 @@
 -- Candidates, slot by slot.
-use Rattle.std.proofs.Common.{◌≡◌, ◌≢◌, ◌⊎◌, inl, inr, ℕ, zero, suc, ◌+◌, ◌*◌, ◌/◌, ◌<◌, ◌≤◌, ◌==◌, min, max, ◌↔◌, if◌then◌else◌, Bool, true, false, List, []}
-use Rattle.std.proofs.Common.{◌∷◌, ◌++◌, Option, Some, None, option_map, option_and_then, refl, sym, subst, ap, ◌∙◌, arith, append-nil}
-use Rattle.std.specs.List.{All, AllPairs, Contains, range_with_len, filter_map, cons_option}
-use Rattle.std.proofs.lemmas.Bool.{cases_eq, eq-eqb, ne_eqb}
+use Rattle.silt_cuckoo.proofs.Common.{◌≡◌, ◌≢◌, ◌⊎◌, inl, inr, ℕ, zero, suc, ◌+◌, ◌*◌, ◌/◌, ◌<◌, ◌≤◌, ◌==◌, min, max, ◌↔◌, if◌then◌else◌, Bool, true, false, List, [], ◌∷◌, ◌++◌, Option, Some, None}
+use Rattle.silt_cuckoo.proofs.Common.{option_map, refl, sym, subst, ap, ◌∙◌, arith, append-nil, range_with_len, filter_map, cons_option, cases_eq, Candidate, Slots, Entry, PlacesApart, entry_at}
+use Rattle.silt_cuckoo.proofs.Common.{place_at, pair_of, table_pairs, match_at, matches_in, places_of}
+use Rattle.silt_cuckoo.proofs.Search.{some_or_none}
+use Rattle.std.specs.List.{All, AllPairs, Contains}
+use Rattle.std.proofs.lemmas.Bool.{eq-eqb, ne_eqb}
 use Rattle.std.proofs.lemmas.List.Elements.{All-nil, All-cons, All-append}
 use Rattle.std.proofs.lemmas.Grind.{get_or_default_zero}
-use Rattle.silt_cuckoo.specs.declared.lookup.Candidate.{Candidate}
-use Rattle.silt_cuckoo.specs.Slots.{Slots, Entry, PlacesApart, entry_at, place_at}
-use Rattle.silt_cuckoo.specs.Pairs.{pair_of, table_pairs}
-use Rattle.silt_cuckoo.specs.Lookup.{match_at, matches_in, candidates_of, places_of}
+use Rattle.silt_cuckoo.specs.Lookup.{candidates_of}
 use Rattle.silt_cuckoo.proofs.Paths.{IsOn, NoneTwice, on_index, index_apart}
 use Rattle.silt_cuckoo.proofs.Sources.{pair_of-swap}
 use Rattle.silt_cuckoo.proofs.Placed.{table_pairs-held, table_pairs-not_held, cases_held}
 
 -- what a function gives of one number more
 pub filter_map_more : {X : Type 0} (f : ℕ → Option X) (a n j : ℕ) → a + n ≡ j → filter_map f (range_with_len a (n + 1)) ≡ filter_map f (range_with_len a n) ++ cons_option (f j) []
-filter_map_more f a zero j e = let same : a ≡ j = omega arith in rw same refl
-filter_map_more {X} f a (suc n) j e =
+filter_map_more f a zero j e = let same : a ≡ j = omega arith in rw same
+filter_map_more f a (suc n) j e =
     let one : suc n + 1 ≡ suc (n + 1) = omega arith in
-    let rest = filter_map_more f (a + 1) n j (omega arith) in
-    rw (one, rest) (go (f a))
-  where
-    go : (o : Option X) → cons_option o (filter_map f (range_with_len (a + 1) n) ++ cons_option (f j) []) ≡ cons_option o (filter_map f (range_with_len (a + 1) n)) ++ cons_option (f j) []
-    go None = refl
-    go (Some x) = refl
+    rw (one, filter_map_more f (a + 1) n j (omega arith)) (elim (some_or_none (f a)) [ inl none ↦ rw none | inr (x, is) ↦ rw is ])
 
 -- what a match means: the slot has an entry with this tag and place
 pub match_is : (slots : Slots) (tag slot : ℕ) (c : Candidate) → match_at slots tag slot ≡ Some c → (c.slot ≡ slot) × (entry_at slots slot ≡ Some (tag, c.place))
-match_is slots tag slot c e = go (entry_at slots slot) e
-  where
-    go : (o : Option Entry) → option_and_then (λ (x : Entry). if x.0 == tag then Some (record { slot = slot; place = x.1 }) else None) o ≡ Some c → (c.slot ≡ slot) × (o ≡ Some (tag, c.place))
-    go None h = absurd (cc)
-    go (Some x) h = elim (cases_eq x.0 tag) [
-      | inl same ↦
-          let test = eq-eqb x.0 tag same in
-          let is : record { slot = slot; place = x.1 } ≡ c = (let h2 : Some (record { slot = slot; place = x.1 }) ≡ Some c = rw test at h in cc) in
-          (sym (ap (λ (k : Candidate). k.slot) is), rw (← same, ← ap (λ (k : Candidate). k.place) is) refl)
-      | inr other ↦ let test = ne_eqb x.0 tag other in absurd (let h2 : None ≡ Some c = rw test at h in cc)
-    ]
+match_is slots tag slot c e = elim (some_or_none (entry_at slots slot)) [
+  | inl none ↦ absurd (cc)
+  | inr (x, is) ↦ elim (cases_eq x.0 tag) [
+    | inl same ↦
+        let made : record { slot = slot; place = x.1 } ≡ c = cc (eq-eqb x.0 tag same) in
+        (sym (ap (λ (k : Candidate). k.slot) made), is ∙ rw (← same, ← ap (λ (k : Candidate). k.place) made) refl)
+    | inr other ↦ absurd (cc (ne_eqb x.0 tag other))
+  ]
+]
 
 -- an entry with this tag is a match
 pub is_match : (slots : Slots) (tag slot place : ℕ) → entry_at slots slot ≡ Some (tag, place) → match_at slots tag slot ≡ Some (record { slot = slot; place = place })
@@ -115,7 +107,7 @@ none_twice_append (s ∷ xs) ys left right apart = (
 -- the places of two lists
 places_of-append : (xs ys : List Candidate) → places_of (xs ++ ys) ≡ places_of xs ++ places_of ys
 places_of-append [] ys = refl
-places_of-append (c ∷ xs) ys = ap (λ ps. c.place ∷ ps) (places_of-append xs ys)
+places_of-append (c ∷ xs) ys = rw (places_of-append xs ys)
 
 -- the candidates of two buckets that differ
 candidates_differ : (slots : Slots) (first second : ℕ) → first ≢ second → places_of (candidates_of slots first second) ≡ places_of (matches_in slots first second)

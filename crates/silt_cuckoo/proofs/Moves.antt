@@ -1,9 +1,9 @@
 -- Laws of moving entries along a path.
-use Rattle.std.proofs.Common.{◌≡◌, ◌≢◌, ℕ, suc, ◌+◌, ◌<◌, ◌≤◌, List, [], ◌∷◌, length, drop, slice_set, slice_index, ◌/◌, Option, None, option_map, refl, sym}
-use Rattle.std.proofs.Common.{ap, ◌∙◌, arith, get_or-set_other, get_or-drop, length-drop}
+use Rattle.silt_cuckoo.proofs.Common.{◌≡◌, ◌≢◌, ℕ, suc, ◌+◌, ◌<◌, ◌≤◌, List, [], ◌∷◌, length, drop, slice_set, slice_index, ◌/◌, Option, None, option_map, refl, sym, ap, ◌∙◌, arith}
+use Rattle.silt_cuckoo.proofs.Common.{get_or-set_other, length-drop, Slots, Entry, entry_at, moved_entry}
+use Rattle.std.proofs.Common.{get_or-drop}
 use Rattle.std.proofs.lemmas.List.{drop_more}
-use Rattle.silt_cuckoo.specs.Slots.{Slots, Entry, entry_at}
-use Rattle.silt_cuckoo.specs.Placing.{moved_along, moved_entry}
+use Rattle.silt_cuckoo.specs.Placing.{moved_along}
 
 -- a slot that is not behind the path's first keeps its entry
 pub moved_other : (slots : Slots) (path : List ℕ) (x : ℕ) → ((j : ℕ) → 1 ≤ j → j < length path → slice_index path j ≢ x) → entry_at (moved_along slots path) x ≡ entry_at slots x
@@ -19,10 +19,7 @@ moved_other slots (s ∷ u ∷ path) x apart =
 pub moved_more : (slots : Slots) (path : List ℕ) (k : ℕ) → k + 1 < length path
     → moved_along slots (drop k path) ≡ slice_set (moved_along slots (drop (k + 1) path)) (slice_index path (k + 1)) (moved_entry slots (slice_index path k))
 unfolding moved_along
-moved_more slots path k long =
-    let one = drop_more path k 0 (omega arith) in
-    let two = drop_more path (k + 1) 0 (omega arith) in
-    ap (moved_along slots) (one ∙ ap (λ ps. slice_index path k ∷ ps) two) ∙ ap (λ ps. slice_set (moved_along slots ps) (slice_index path (k + 1)) (moved_entry slots (slice_index path k))) (sym two)
+moved_more slots path k long = rw (drop_more path k 0 (omega arith), drop_more path (k + 1) 0 (omega arith))
 
 -- the last slot alone moves nothing
 pub moved_last : (slots : Slots) (path : List ℕ) → length path ≤ 1 → moved_along slots path ≡ slots
@@ -40,6 +37,4 @@ moved_turn slots now path k entry so_far long apart is =
     (λ j low high. let here = get_or-drop (k + 1) path j 0 in λ e. apart k (k + 1 + j) (omega arith) (let l = length-drop (k + 1) path in omega arith) (sym here ∙ e)) in
     let same : moved_entry now (slice_index path k) ≡ moved_entry slots (slice_index path k) =
     ap (option_map (λ (e : Entry). (slice_index path k / 4, e.1))) (ap (λ t. entry_at t (slice_index path k)) so_far ∙ kept) in
-    ap (λ t. slice_set t (slice_index path (k + 1)) entry) so_far
-    ∙ ap (slice_set (moved_along slots (drop (k + 1) path)) (slice_index path (k + 1))) (is ∙ same)
-    ∙ sym (moved_more slots path k long)
+    cc (moved_more slots path k long)

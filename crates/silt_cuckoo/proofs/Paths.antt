@@ -1,15 +1,14 @@
 -- A path that the placing rule finds leads from entry to entry, names no slot twice and stays inside the table.
-use Rattle.std.proofs.Common.{◌≡◌, ◌≢◌, ◌⊎◌, inl, inr, ℕ, zero, suc, ◌+◌, ◌*◌, ◌/◌, ◌%◌, ◌<◌, ◌≤◌, true, false, not, ◌==◌, List, [], ◌∷◌, ◌++◌, length}
-use Rattle.std.proofs.Common.{slice_index, slice_set, Option, Some, None, IsNone, IfSome, ◌↔◌, is_none, option_map, option_and_then, refl, sym, subst, ap, ◌∙◌}
-use Rattle.std.proofs.Common.{arith, length-append}
+use Rattle.silt_cuckoo.proofs.Common.{◌≡◌, ◌≢◌, ◌⊎◌, inl, inr, ℕ, zero, suc, ◌+◌, ◌*◌, ◌/◌, ◌%◌, ◌<◌, ◌≤◌, true, false, not, ◌==◌, List, [], ◌∷◌, ◌++◌, length, slice_index, slice_set, Some, None}
+use Rattle.silt_cuckoo.proofs.Common.{◌↔◌, option_map, refl, sym, subst, ap, ◌∙◌, arith, length-append, cases_lt, get_or_past, Slots, Entry, IsTable, bucket_count, entry_at, tag_at, can_move}
+use Rattle.silt_cuckoo.proofs.Common.{ended_walk, bucket_after, plan_for, moved_along, other_bucket}
+use Rattle.std.proofs.Common.{IsNone, IfSome, is_none}
 use Rattle.std.specs.List.{list_any}
-use Rattle.std.proofs.lemmas.Bool.{cases_lt, eq-eqb, not-true, and_parts}
+use Rattle.std.proofs.lemmas.Bool.{eq-eqb, not-true, and_parts}
 use Rattle.std.proofs.Math.Bool.{or-true}
-use Rattle.std.proofs.lemmas.List.{get_or_past}
-use Rattle.silt_cuckoo.specs.Slots.{Slots, Entry, IsTable, bucket_count, entry_at, tag_at}
-use Rattle.silt_cuckoo.specs.Placing.{free_slot, victim, can_move, turns, ended_walk, shortest_walk, bucket_after, path_for, first_path, PathPlan, plan_for}
-use Rattle.silt_cuckoo.specs.Placing.{IsPlanFor, placed, put_along, moved_along, other_bucket}
-use Rattle.silt_cuckoo.proofs.Search.{found_in_range, none_in_range, found_among, first_is}
+use Rattle.silt_cuckoo.specs.Placing.{free_slot, victim, turns, shortest_walk, path_for, PathPlan}
+use Rattle.silt_cuckoo.specs.Placing.{IsPlanFor, placed, put_along}
+use Rattle.silt_cuckoo.proofs.Search.{found_in_range, none_in_range, found_among, first_is, some_or_none}
 
 -- a slot of the path
 abbrev pub IsOn : ℕ → List ℕ → Type 0
@@ -45,29 +44,19 @@ pub record Displaces (slots : Slots) (first second : ℕ) (path : List ℕ) : Ty
 
 -- an entry has a tag
 pub has_tag : (slots : Slots) (slot : ℕ) → is_none (entry_at slots slot) ≡ false → HasTag slots slot (tag_at slots slot)
-has_tag slots slot full = go (entry_at slots slot) refl full
-  where
-    go : (o : Option Entry) → entry_at slots slot ≡ o → is_none o ≡ false → HasTag slots slot (tag_at slots slot)
-    go None is h = absurd (cc)
-    go (Some e) is h = (e, is, let same : tag_at slots slot ≡ e.0 = rw is refl in sym same)
+has_tag slots slot full = elim (some_or_none (entry_at slots slot)) [ inl none ↦ absurd (cc) | inr (e, is) ↦ (e, is, cc) ]
 
 -- a slot with an entry is one of the table's
 pub entry_inside : (slots : Slots) (slot : ℕ) (e : Entry) → entry_at slots slot ≡ Some e → slot < length slots
-entry_inside slots slot e is = elim (cases_lt slot (length slots)) [
-  | inl there ↦ there
-  | inr past ↦ let none = get_or_past slots slot None past in absurd (cc)
-]
+entry_inside slots slot e is = elim (cases_lt slot (length slots)) [ inl there ↦ there | inr past ↦ absurd (cc (get_or_past slots slot None past)) ]
 
 -- a free slot of a bucket
 pub free_slot_is : (slots : Slots) (bucket slot : ℕ) → free_slot slots bucket ≡ Some slot → (entry_at slots slot ≡ None) × (slot / 4 ≡ bucket)
 unfolding free_slot
 free_slot_is slots bucket slot e =
     let found = found_in_range (λ s. is_none (entry_at slots s)) (4 * bucket) 4 slot e in
-    (is_none_is (entry_at slots slot) found.2, omega (arith, found.0, found.1))
-  where
-    is_none_is : (o : Option Entry) → is_none o ≡ true → o ≡ None
-    is_none_is None h = refl
-    is_none_is (Some x) h = absurd (cc)
+    let free : is_none (entry_at slots slot) ≡ true = found.2 in
+    (elim (some_or_none (entry_at slots slot)) [ inl none ↦ none | inr (x, is) ↦ absurd (cc) ], omega (arith, found.0, found.1))
 
 -- each slot of a full bucket has an entry
 pub full_bucket : (slots : Slots) (bucket slot : ℕ) → free_slot slots bucket ≡ None → slot / 4 ≡ bucket → HasTag slots slot (tag_at slots slot)
@@ -132,31 +121,22 @@ FullBefore slots bucket n = (k : ℕ) (path : List ℕ) → k < n → turns slot
 pub turns_are : (slots : Slots) (bucket n : ℕ) (path : List ℕ) → FullBefore slots bucket n → turns slots bucket n ≡ Some path → Chain slots bucket path × NoneTwice path × (length path ≡ n)
 unfolding turns
 turns_are slots bucket zero path full e = let empty : [] ≡ path = cc in rw (← empty) (tt, tt, refl)
-turns_are slots bucket (suc n) path full e = go (turns slots bucket n) refl (λ p. turns_are slots bucket n p (λ k q low. full k q (omega arith))) e
-  where
-    go : (o : Option (List ℕ)) → turns slots bucket n ≡ o → ((p : List ℕ) → turns slots bucket n ≡ Some p → Chain slots bucket p × NoneTwice p × (length p ≡ n))
-        → option_and_then (λ p. option_map (λ slot. p ++ slot ∷ []) (victim slots p (bucket_after slots bucket p) n)) o ≡ Some path → Chain slots bucket path × NoneTwice path × (length path ≡ suc n)
-    go None is before h = absurd (cc)
-    go (Some p) is before h = more (victim slots p (bucket_after slots bucket p) n) refl h
-      where
-        more : (v : Option ℕ) → victim slots p (bucket_after slots bucket p) n ≡ v → option_map (λ slot. p ++ slot ∷ []) v ≡ Some path
-            → Chain slots bucket path × NoneTwice path × (length path ≡ suc n)
-        more None there h = absurd (cc)
-        more (Some slot) there h =
-            let longer : p ++ slot ∷ [] ≡ path = cc in
-            let earlier = before p is in
-            let it = victim_is slots p (bucket_after slots bucket p) n slot there in
-            let entry = full_bucket slots (bucket_after slots bucket p) slot (full n p (omega arith) is) it.0 in
-            rw (← longer) (chain_push slots bucket p slot earlier.0 it.0 entry, none_twice_push p slot earlier.1 it.1, omega (arith, length-append p (slot ∷ []), earlier.2))
+turns_are slots bucket (suc n) path full e = elim (some_or_none (turns slots bucket n)) [
+  | inl none ↦ absurd (cc)
+  | inr (p, is) ↦ elim (some_or_none (victim slots p (bucket_after slots bucket p) n)) [
+    | inl none ↦ absurd (cc)
+    | inr (slot, there) ↦
+        let longer : p ++ slot ∷ [] ≡ path = cc in
+        let earlier = turns_are slots bucket n p (λ k q low. full k q (omega arith)) is in
+        let it = victim_is slots p (bucket_after slots bucket p) n slot there in
+        let entry = full_bucket slots (bucket_after slots bucket p) slot (full n p (omega arith) is) it.0 in
+        rw (← longer) (chain_push slots bucket p slot earlier.0 it.0 entry, none_twice_push p slot earlier.1 it.1, omega (arith, length-append p (slot ∷ []), earlier.2))
+  ]
+]
 
 -- a walk that has not ended is at a full bucket
 pub full_here : (slots : Slots) (bucket n : ℕ) (path : List ℕ) → ended_walk slots bucket n ≡ None → turns slots bucket n ≡ Some path → free_slot slots (bucket_after slots bucket path) ≡ None
-full_here slots bucket n path none is =
-    go (free_slot slots (bucket_after slots bucket path)) (let h : option_map (λ (slot : ℕ). path ++ slot ∷ []) (free_slot slots (bucket_after slots bucket path)) ≡ None = rw is at none in h)
-  where
-    go : (o : Option ℕ) → option_map (λ (slot : ℕ). path ++ slot ∷ []) o ≡ None → o ≡ None
-    go None h = refl
-    go (Some x) h = absurd (cc)
+full_here slots bucket n path none is = elim (some_or_none (free_slot slots (bucket_after slots bucket path))) [ inl full ↦ full | inr (slot, free) ↦ absurd (cc) ]
 
 -- the parts of a walk that ended: some turns, and then a free slot
 record Parts (slots : Slots) (bucket : ℕ) (walk : List ℕ) : Type 0 where
@@ -175,22 +155,23 @@ full_before slots bucket m full none zero p low is = let empty : [] ≡ p = cc i
 full_before slots bucket m full none (suc k) p low is = full_here slots bucket (suc k) p (none (suc k) (omega arith) low) is
 
 -- each walk that ended has such parts
+ended_parts : (slots : Slots) (bucket m : ℕ) (walk : List ℕ) → 1 ≤ m → FullBefore slots bucket m → ended_walk slots bucket m ≡ Some walk → Parts slots bucket walk
+ended_parts slots bucket m walk low before e = elim (some_or_none (turns slots bucket m)) [
+  | inl none ↦ absurd (cc)
+  | inr (path, is) ↦ elim (some_or_none (free_slot slots (bucket_after slots bucket path))) [
+    | inl none ↦ absurd (cc)
+    | inr (free, there) ↦
+        let are = turns_are slots bucket m path before is in
+        record { path = path; free = free; is = cc; chain = are.0; twice = are.1; some = omega (arith, are.2); ends = there }
+  ]
+]
+
+-- and so has the shortest
 walk_parts : (slots : Slots) (bucket : ℕ) (walk : List ℕ) → free_slot slots bucket ≡ None → shortest_walk slots bucket ≡ Some walk → Parts slots bucket walk
 unfolding shortest_walk
 walk_parts slots bucket walk full e =
     let first = first_is (ended_walk slots bucket) 1 128 walk e in
-    go first.0 first.1 (full_before slots bucket first.0 full first.3) (turns slots bucket first.0) refl first.2
-  where
-    go : (m : ℕ) → 1 ≤ m → FullBefore slots bucket m → (o : Option (List ℕ)) → turns slots bucket m ≡ o
-        → option_and_then (λ path. option_map (λ slot. path ++ slot ∷ []) (free_slot slots (bucket_after slots bucket path))) o ≡ Some walk → Parts slots bucket walk
-    go m low before None is h = absurd (cc)
-    go m low before (Some path) is h = end (free_slot slots (bucket_after slots bucket path)) refl h
-      where
-        end : (f : Option ℕ) → free_slot slots (bucket_after slots bucket path) ≡ f → option_map (λ slot. path ++ slot ∷ []) f ≡ Some walk → Parts slots bucket walk
-        end None there h = absurd (cc)
-        end (Some free) there h =
-            let are = turns_are slots bucket m path before is in
-            record { path = path; free = free; is = (let same : path ++ free ∷ [] ≡ walk = cc in sym same); chain = are.0; twice = are.1; some = omega (arith, are.2); ends = there }
+    ended_parts slots bucket first.0 walk first.1 (full_before slots bucket first.0 full first.3) first.2
 
 -- a slot of a bucket of the table is one of the table's
 bucket_inside : (slots : Slots) (slot : ℕ) → IsTable slots → slot / 4 < bucket_count slots → slot < length slots
@@ -235,13 +216,13 @@ walk_displaces slots first second walk table there parts =
 pub path_displaces : (slots : Slots) (first second : ℕ) (path : List ℕ) → IsTable slots → first < bucket_count slots
     → second < bucket_count slots → path_for slots first second ≡ Some path → Displaces slots first second path
 unfolding path_for
-path_displaces slots first second path table first_there second_there e =
-    go (free_slot slots first) refl (free_slot slots second) refl e
-  where
-    go : (f : Option ℕ) → free_slot slots first ≡ f → (g : Option ℕ) → free_slot slots second ≡ g → first_path f g (shortest_walk slots first) ≡ Some path → Displaces slots first second path
-    go (Some slot) is g also h = let same : slot ∷ [] ≡ path = cc in rw (← same) (free_displaces slots first second first slot table first_there (inl refl) is)
-    go None is (Some slot) also h = let same : slot ∷ [] ≡ path = cc in rw (← same) (free_displaces slots first second second slot table second_there (inr refl) also)
-    go None is None also h = walk_displaces slots first second path table first_there (walk_parts slots first path is h)
+path_displaces slots first second path table first_there second_there e = elim (some_or_none (free_slot slots first)) [
+  | inr (slot, is) ↦ let same : slot ∷ [] ≡ path = cc in rw (← same) (free_displaces slots first second first slot table first_there (inl refl) is)
+  | inl full ↦ elim (some_or_none (free_slot slots second)) [
+    | inr (slot, is) ↦ let same : slot ∷ [] ≡ path = cc in rw (← same) (free_displaces slots first second second slot table second_there (inr refl) is)
+    | inl none ↦ walk_displaces slots first second path table first_there (walk_parts slots first path full (cc))
+  ]
+]
 
 -- the slot at each index is on the path
 pub on_index : (path : List ℕ) (k : ℕ) → k < length path → IsOn (slice_index path k) path
@@ -283,25 +264,22 @@ plan_begins slots plan path table planned same = path_begins slots path (plan_di
 pub plan_placed : (slots : Slots) (plan : PathPlan) (path : List ℕ) (place : ℕ) → IsPlanFor slots plan → path ≡ plan.slots
     → placed slots plan.first plan.second place ≡ Some (slice_set (moved_along slots path) (slice_index path 0) (Some (other_bucket plan.first plan.second (slice_index path 0), place)))
 unfolding placed put_along
-plan_placed slots plan path place planned same =
-    ap (option_map (put_along slots plan.first plan.second place)) (planned.path ∙ ap Some (sym same))
+plan_placed slots plan path place planned same = cc (planned.path)
 
 -- a plan belongs to the table that it was made of
 pub plan_stands : (slots : Slots) (first second : ℕ) → first < bucket_count slots → second < bucket_count slots → IfSome (plan_for slots first second) (IsPlanFor slots)
-plan_stands slots first second first_there second_there = go (path_for slots first second) refl
-  where
-    go : (o : Option (List ℕ)) → path_for slots first second ≡ o → IfSome (option_map (λ path. record { first = first; second = second; slots = path }) o) (IsPlanFor slots)
-    go None is = tt
-    go (Some path) is = record { first_there = first_there; second_there = second_there; path = is }
+plan_stands slots first second first_there second_there = elim (some_or_none (path_for slots first second)) [
+  | inl none ↦ rw none tt
+  | inr (path, is) ↦ rw is (record { first_there = first_there; second_there = second_there; path = is })
+]
 
 -- there is no plan if and only if nothing is placed
 pub plan_gives_up : (slots : Slots) (first second place : ℕ) → IsNone (plan_for slots first second) ↔ (placed slots first second place ≡ None)
 unfolding placed
-plan_gives_up slots first second place = go (path_for slots first second)
-  where
-    go : (o : Option (List ℕ)) → IsNone (option_map {U = PathPlan} (λ path. record { first = first; second = second; slots = path }) o) ↔ (option_map (put_along slots first second place) o ≡ None)
-    go None = (λ none. refl, λ none. refl)
-    go (Some path) = (λ none. absurd (cc), λ none. absurd (cc))
+plan_gives_up slots first second place = elim (some_or_none (path_for slots first second)) [
+  | inl none ↦ rw none (λ _. refl, λ _. refl)
+  | inr (path, is) ↦ rw is (λ none. absurd (cc), λ none. absurd (cc))
+]
 
 -- the path to a free slot of the first bucket
 pub plan_first : (slots : Slots) (first second slot : ℕ) → free_slot slots first ≡ Some slot → plan_for slots first second ≡ Some (record { first = first; second = second; slots = slot ∷ [] })

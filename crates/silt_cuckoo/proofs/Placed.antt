@@ -1,78 +1,57 @@
 -- The table after a new entry was put along a path.
-use Rattle.std.proofs.Common.{◌≡◌, ◌≢◌, ◌⊎◌, inl, inr, ℕ, ◌/◌, ◌<◌, ◌==◌, Bool, true, false, if◌then◌else◌, List, [], ◌∷◌, length, Option, Some, None}
-use Rattle.std.proofs.Common.{option_map, option_and_then, unwrap_or, refl, sym, ap, ◌∙◌, arith, get_or-set_other, get_or-set_same, length-set}
-use Rattle.std.proofs.lemmas.Bool.{cases_eq, eq-eqb, ne_eqb, eqb-true}
-use Rattle.silt_cuckoo.specs.Slots.{Slots, Entry, IsTable, PlacesApart, HoldsPlace, bucket_count, entry_at, tag_at, place_at}
-use Rattle.silt_cuckoo.specs.Placing.{moved_along, put_along, other_bucket, path_for, placed}
-use Rattle.silt_cuckoo.specs.Pairs.{pair_at, pair_of, has_place, slot_of_place, table_pairs, AddsPair}
+use Rattle.silt_cuckoo.proofs.Common.{◌≡◌, ◌≢◌, ◌⊎◌, inl, inr, ℕ, ◌/◌, ◌<◌, ◌==◌, true, List, [], ◌∷◌, length, Option, Some, None, option_map, refl, sym, ap, ◌∙◌, arith, get_or-set_other}
+use Rattle.silt_cuckoo.proofs.Common.{get_or-set_same, length-set, cases_eq, cases_Bool, Slots, Entry, IsTable, PlacesApart, HoldsPlace, bucket_count, entry_at, tag_at, place_at, moved_along}
+use Rattle.silt_cuckoo.proofs.Common.{other_bucket, pair_at, pair_of, has_place, AddsPair}
+use Rattle.std.proofs.lemmas.Bool.{eq-eqb, ne_eqb, eqb-true}
+use Rattle.silt_cuckoo.specs.Placing.{put_along, path_for, placed}
+use Rattle.silt_cuckoo.specs.Pairs.{slot_of_place, table_pairs}
 use Rattle.silt_cuckoo.specs.Laws.{PairLaw, TableLaw}
-use Rattle.silt_cuckoo.proofs.Search.{found_in_range, none_in_range}
+use Rattle.silt_cuckoo.proofs.Search.{found_in_range, none_in_range, some_or_none}
 use Rattle.silt_cuckoo.proofs.Paths.{Displaces, path_displaces, entry_inside}
 use Rattle.silt_cuckoo.proofs.Sources.{source, source_apart, target, length_moved, pair_of-swap, place_at-moved_along, pair_at-moved_along, tag_at-moved_along}
 
 -- an entry with this place
 pub has_entry : (slots : Slots) (slot place : ℕ) → place_at slots slot ≡ Some place → (e : Entry) × (entry_at slots slot ≡ Some e) × (e.1 ≡ place)
-has_entry slots slot place h = go (entry_at slots slot) refl h
-  where
-    go : (o : Option Entry) → entry_at slots slot ≡ o → option_map (λ (e : Entry). e.1) o ≡ Some place → (e : Entry) × (entry_at slots slot ≡ Some e) × (e.1 ≡ place)
-    go None is h = absurd (cc)
-    go (Some e) is h = (e, is, cc)
+has_entry slots slot place h = elim (some_or_none (entry_at slots slot)) [ inl none ↦ absurd (cc) | inr (e, is) ↦ (e, is, cc) ]
 
 -- the test finds a slot with the place, and no other
 pub has_place_is : (slots : Slots) (place slot : ℕ) → has_place slots place slot ≡ true → place_at slots slot ≡ Some place
-has_place_is slots place slot h = go (entry_at slots slot) h
-  where
-    go : (o : Option Entry) → unwrap_or (option_map (λ (e : Entry). e.1 == place) o) false ≡ true → option_map (λ (e : Entry). e.1) o ≡ Some place
-    go None h = absurd (cc)
-    go (Some e) h = ap Some (eqb-true e.1 place h)
+has_place_is slots place slot h = elim (some_or_none (entry_at slots slot)) [ inl none ↦ absurd (cc) | inr (e, is) ↦ cc (eqb-true e.1 place (cc)) ]
 
 -- and a slot with the place passes it
 pub is_has_place : (slots : Slots) (place slot : ℕ) → place_at slots slot ≡ Some place → has_place slots place slot ≡ true
-is_has_place slots place slot h = go (entry_at slots slot) h
-  where
-    go : (o : Option Entry) → option_map (λ (e : Entry). e.1) o ≡ Some place → unwrap_or (option_map (λ (e : Entry). e.1 == place) o) false ≡ true
-    go None h = absurd (cc)
-    go (Some e) h = eq-eqb e.1 place (cc)
+is_has_place slots place slot h = elim (some_or_none (entry_at slots slot)) [ inl none ↦ absurd (cc) | inr (e, is) ↦ cc (eq-eqb e.1 place (cc)) ]
+
+-- a slot that has a place is found
+place_found : (slots : Slots) (place slot : ℕ) → place_at slots slot ≡ Some place → slot_of_place slots place ≢ None
+place_found slots place slot is none =
+    let entry = has_entry slots slot place is in
+    let there = entry_inside slots slot entry.0 entry.1 in
+    let fails = none_in_range (has_place slots place) 0 (length slots) none slot (omega arith) (omega arith) in
+    absurd (cc (is_has_place slots place slot is))
 
 -- the pair of a place that is held is that of its slot
 pub table_pairs-held : (slots : Slots) (slot place : ℕ) → PlacesApart slots → place_at slots slot ≡ Some place → table_pairs slots place ≡ pair_at slots slot
 unfolding table_pairs
-table_pairs-held slots slot place apart is = go (slot_of_place slots place) refl
-  where
-    go : (o : Option ℕ) → slot_of_place slots place ≡ o → option_and_then (pair_at slots) o ≡ pair_at slots slot
-    go None none =
-        let entry = has_entry slots slot place is in
-        let there = entry_inside slots slot entry.0 entry.1 in
-        let fails = none_in_range (has_place slots place) 0 (length slots) none slot (omega arith) (omega arith) in
-        let passes = is_has_place slots place slot is in
-        absurd (cc)
-    go (Some other) found =
-        let it = found_in_range (has_place slots place) 0 (length slots) other found in
-        ap (pair_at slots) (apart other slot place (has_place_is slots place other it.2) is)
+table_pairs-held slots slot place apart is = elim (some_or_none (slot_of_place slots place)) [
+  | inl none ↦ absurd (place_found slots place slot is none)
+  | inr (other, found) ↦ cc (apart other slot place (has_place_is slots place other (found_in_range (has_place slots place) 0 (length slots) other found).2) is)
+]
 
 -- a place that no slot has has no pair
 pub table_pairs-not_held : (slots : Slots) (place : ℕ) → ¬ HoldsPlace slots place → table_pairs slots place ≡ None
 unfolding table_pairs
-table_pairs-not_held slots place not_held = go (slot_of_place slots place) refl
-  where
-    go : (o : Option ℕ) → slot_of_place slots place ≡ o → option_and_then (pair_at slots) o ≡ None
-    go None none = refl
-    go (Some slot) found =
-        let it = found_in_range (has_place slots place) 0 (length slots) slot found in
-        absurd (not_held (slot, has_place_is slots place slot it.2))
+table_pairs-not_held slots place not_held = elim (some_or_none (slot_of_place slots place)) [
+  | inl none ↦ rw none
+  | inr (slot, found) ↦ absurd (not_held (slot, has_place_is slots place slot (found_in_range (has_place slots place) 0 (length slots) slot found).2))
+]
 
 -- a place is held or not
 pub cases_held : (slots : Slots) (place : ℕ) → HoldsPlace slots place ⊎ ¬ HoldsPlace slots place
-cases_held slots place = go (slot_of_place slots place) refl
-  where
-    go : (o : Option ℕ) → slot_of_place slots place ≡ o → HoldsPlace slots place ⊎ ¬ HoldsPlace slots place
-    go (Some slot) found = inl (slot, has_place_is slots place slot (found_in_range (has_place slots place) 0 (length slots) slot found).2)
-    go None none = inr (λ (slot, is).
-        let entry = has_entry slots slot place is in
-        let there = entry_inside slots slot entry.0 entry.1 in
-        let fails = none_in_range (has_place slots place) 0 (length slots) none slot (omega arith) (omega arith) in
-        let passes = is_has_place slots place slot is in
-        absurd (cc))
+cases_held slots place = elim (some_or_none (slot_of_place slots place)) [
+  | inl none ↦ inr (λ (slot, is). place_found slots place slot is none)
+  | inr (slot, found) ↦ inl (slot, has_place_is slots place slot (found_in_range (has_place slots place) 0 (length slots) slot found).2)
+]
 
 -- the new entry's pair is that of its two buckets
 new_pair : (slot first second : ℕ) → (slot / 4 ≡ first) ⊎ (slot / 4 ≡ second) → pair_of (slot / 4) (other_bucket first second slot) ≡ pair_of first second
@@ -80,17 +59,12 @@ new_pair slot first second where_it = elim (cases_eq (slot / 4) first) [
   | inl same ↦ let test = eq-eqb (slot / 4) first same in rw (test, same) refl
   | inr other ↦
       let there : slot / 4 ≡ second = elim where_it [ inl same ↦ absurd (other same) | inr same ↦ same ] in
-      let test = ne_eqb (slot / 4) first other in
-      rw (test, there) (pair_of-swap second first)
+      rw ((ne_eqb (slot / 4) first other), there) (pair_of-swap second first)
 ]
 
 -- the new entry's tag is one of its two buckets
 new_tag : (slot first second count : ℕ) → first < count → second < count → other_bucket first second slot < count
-new_tag slot first second count first_there second_there = go (slot / 4 == first)
-  where
-    go : (b : Bool) → (if b then second else first) < count
-    go true = second_there
-    go false = first_there
+new_tag slot first second count first_there second_there = elim (cases_Bool (slot / 4 == first)) [ inl is ↦ rw is second_there | inr is ↦ rw is first_there ]
 
 -- a table with a new entry along a path that leads on
 record Put (old new : Slots) (first second place s : ℕ) (path : List ℕ) : Type 0 where
@@ -114,8 +88,7 @@ put_is slots first second place s path along =
 -- what each slot but the path's first has then
 put_place : (old new : Slots) (first second place s : ℕ) (path : List ℕ) → Displaces old first second (s ∷ path)
     → Put old new first second place s path → (x : ℕ) → x ≢ s → place_at new x ≡ place_at old (source (s ∷ path) x)
-put_place old new first second place s path along put x other =
-    ap (option_map (λ (e : Entry). e.1)) (put.others x other) ∙ place_at-moved_along old (s ∷ path) x along.inside
+put_place old new first second place s path along put x other = cc (put.others x other, place_at-moved_along old (s ∷ path) x along.inside)
 
 -- no place is held twice then
 put_apart : (old new : Slots) (first second place s : ℕ) (path : List ℕ) → PlacesApart old → ¬ HoldsPlace old place
@@ -170,8 +143,7 @@ put_pairs old new first second place s path table after is_new along put p = eli
       let held : place_at new s ≡ Some p = ap (option_map (λ (e : Entry). e.1)) put.here ∙ ap Some (sym same) in
       rw test (table_pairs-held new s p after.places_apart held ∙ ap (option_map (λ (e : Entry). pair_of (s / 4) e.0)) put.here ∙ ap Some (new_pair s first second along.begins))
   | inr other ↦
-      let test = ne_eqb p place other in
-      rw test (elim (cases_held old p) [
+      rw (ne_eqb p place other) (elim (cases_held old p) [
         | inl (y, is) ↦
             let entry = has_entry old y p is in
             let to = target old s path y entry.0 along.leads along.twice entry.1 in

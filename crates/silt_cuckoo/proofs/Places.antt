@@ -1,8 +1,8 @@
 -- Which places are in the table, and which are not.
-use Rattle.std.proofs.Common.{◌≡◌, ◌≢◌, inl, inr, ℕ, ◌+◌, ◌*◌, ◌/◌, ◌≤◌, Some, None, option_map, sym, ap, ◌∙◌, arith}
-use Rattle.std.proofs.lemmas.Bool.{cases_eq, ne_eqb}
-use Rattle.silt_cuckoo.specs.Slots.{Slots, Entry, IsTable, HoldsPlace, PlacesBelow, empty_slots, place_at}
-use Rattle.silt_cuckoo.specs.Pairs.{pair_of, table_pairs, AddsPair}
+use Rattle.silt_cuckoo.proofs.Common.{◌≡◌, ◌≢◌, inl, inr, ℕ, ◌+◌, ◌*◌, ◌/◌, ◌≤◌, Some, None, option_map, sym, ap, ◌∙◌, arith, cases_eq, Slots, Entry, IsTable, HoldsPlace, empty_slots, place_at}
+use Rattle.silt_cuckoo.proofs.Common.{pair_of, table_pairs, AddsPair}
+use Rattle.std.proofs.lemmas.Bool.{ne_eqb}
+use Rattle.silt_cuckoo.specs.Slots.{PlacesBelow}
 use Rattle.silt_cuckoo.proofs.Placed.{has_entry, table_pairs-held, table_pairs-not_held, cases_held}
 use Rattle.silt_cuckoo.proofs.Tables.{entry_at-free}
 
@@ -34,9 +34,7 @@ holds_from_pair slots place pair is = elim (cases_held slots place) [
 pub held_before : (old new : Slots) (place first second slot p : ℕ) → IsTable new → AddsPair old new place first second → place_at new slot ≡ Some p → p ≢ place → HoldsPlace old p
 held_before old new place first second slot p table adds is other =
     let pair = pair_held new slot p table is in
-    let test = ne_eqb p place other in
-    let here = (rw test at (adds p)) in
-    holds_from_pair old p pair.0 (sym here ∙ pair.1)
+    holds_from_pair old p pair.0 (sym ((rw (ne_eqb p place other) at (adds p))) ∙ pair.1)
 
 -- after a new place all are below the next bound
 pub placed_below : (old new : Slots) (place first second : ℕ) → IsTable new → PlacesBelow old place → AddsPair old new place first second → PlacesBelow new (place + 1)
@@ -44,6 +42,5 @@ placed_below old new place first second table below adds slot p is = elim (cases
   | inl same ↦ omega arith
   | inr other ↦
       let before = held_before old new place first second slot p table adds is other in
-      let low = below before.0 p before.1 in
-      omega arith
+      omega (arith, below before.0 p before.1)
 ]

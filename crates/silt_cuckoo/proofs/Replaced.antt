@@ -1,9 +1,8 @@
 -- The pairs of a table in which an entry takes a new place.
-use Rattle.std.proofs.Common.{◌≡◌, ◌≢◌, ◌⊎◌, inl, inr, ℕ, ◌/◌, ◌<◌, false, length, IsSome, Option, Some, None, option_map, refl, sym, ap, ◌∙◌, get_or-set_other, get_or-set_same}
-use Rattle.std.proofs.lemmas.Bool.{cases_eq, cases_Bool, eq-eqb, ne_eqb}
-use Rattle.silt_cuckoo.specs.Slots.{Slots, Entry, IsTable, HoldsPlace, entry_at, tag_at, place_at}
-use Rattle.silt_cuckoo.specs.Placing.{replaced}
-use Rattle.silt_cuckoo.specs.Pairs.{pair_of, pair_at, has_place, table_pairs, TakesSlot}
+use Rattle.silt_cuckoo.proofs.Common.{◌≡◌, ◌≢◌, ◌⊎◌, inl, inr, ℕ, ◌/◌, ◌<◌, false, length, Some, None, option_map, refl, sym, ap, ◌∙◌, get_or-set_other, get_or-set_same, cases_eq, cases_Bool, Slots}
+use Rattle.silt_cuckoo.proofs.Common.{Entry, IsTable, HoldsPlace, entry_at, tag_at, place_at, replaced, pair_of, pair_at, has_place, table_pairs, TakesSlot}
+use Rattle.silt_cuckoo.proofs.Search.{some_or_none}
+use Rattle.std.proofs.lemmas.Bool.{eq-eqb, ne_eqb}
 use Rattle.silt_cuckoo.proofs.Placed.{has_place_is, is_has_place, table_pairs-held, table_pairs-not_held, cases_held}
 use Rattle.silt_cuckoo.proofs.Tables.{replaced_table, slot_inside}
 use Rattle.silt_cuckoo.specs.Laws.{ReplaceLaw}
@@ -19,8 +18,7 @@ replaced_pairs slots slot place e table there is is_new p = elim (cases_eq p pla
       let before : pair_at slots slot ≡ Some (pair_of (slot / 4) e.0) = ap (option_map (λ (x : Entry). pair_of (slot / 4) x.0)) is in
       rw test (table_pairs-held new slot p after.places_apart held ∙ ap (option_map (λ (x : Entry). pair_of (slot / 4) x.0)) same_entry ∙ ap (λ t. Some (pair_of (slot / 4) t)) tag ∙ sym before)
   | inr other ↦
-      let test = ne_eqb p place other in
-      rw test (elim (cases_Bool (has_place slots p slot)) [
+      rw (ne_eqb p place other) (elim (cases_Bool (has_place slots p slot)) [
         | inl passes ↦ rw passes (table_pairs-not_held new p (λ (x, held). elim (cases_eq x slot) [
           | inl x_same ↦ other (here x x_same held)
           | inr x_other ↦ x_other (table.places_apart x slot p (sym (at x x_other) ∙ held) (has_place_is slots p slot passes))
@@ -62,11 +60,9 @@ replaced_pairs slots slot place e table there is is_new p = elim (cases_eq p pla
 
 -- an entry that takes a new place leaves a table, and its slot its pair
 pub replace_law : ReplaceLaw
-replace_law slots slot place table some is_new = go (entry_at slots slot) refl some
-  where
-    there : slot < length slots
-    there = slot_inside slots slot some
-
-    go : (o : Option Entry) → entry_at slots slot ≡ o → IsSome o → IsTable (replaced slots slot place) × TakesSlot slots (replaced slots slot place) slot place
-    go None is some = absurd (cc)
-    go (Some e) is some = (replaced_table slots slot place table there is_new, replaced_pairs slots slot place e table there is is_new)
+replace_law slots slot place table some is_new =
+    let there = slot_inside slots slot some in
+    elim (some_or_none (entry_at slots slot)) [
+      | inl none ↦ absurd (cc)
+      | inr (e, is) ↦ (replaced_table slots slot place table there is_new, replaced_pairs slots slot place e table there is is_new)
+    ]

@@ -1,10 +1,10 @@
 -- The slot that the entry of each slot comes from, when entries move along a path.
-use Rattle.std.proofs.Common.{◌≡◌, ◌≢◌, ◌⊎◌, inl, inr, ℕ, ◌/◌, ◌<◌, ◌==◌, if◌then◌else◌, min, max, List, [], ◌∷◌, length, slice_set, Option, Some, None}
-use Rattle.std.proofs.Common.{option_map, unwrap_or, refl, sym, subst, ap, ◌∙◌, arith, get_or-set_other, get_or-set_same, length-set}
-use Rattle.std.proofs.lemmas.Bool.{cases_eq, eq-eqb, ne_eqb}
-use Rattle.silt_cuckoo.specs.Slots.{Slots, Entry, IsTable, bucket_count, entry_at, tag_at, place_at}
-use Rattle.silt_cuckoo.specs.Placing.{moved_along, moved_entry}
-use Rattle.silt_cuckoo.specs.Pairs.{pair_at, pair_of}
+use Rattle.silt_cuckoo.proofs.Common.{◌≡◌, ◌≢◌, ◌⊎◌, inl, inr, ℕ, ◌/◌, ◌<◌, ◌==◌, if◌then◌else◌, min, max, List, [], ◌∷◌, length, Option, Some, None, option_map, refl, sym, subst, ap, ◌∙◌, arith}
+use Rattle.silt_cuckoo.proofs.Common.{get_or-set_other, get_or-set_same, length-set, cases_eq, Slots, Entry, IsTable, bucket_count, entry_at, tag_at, place_at, moved_entry, pair_at, pair_of}
+use Rattle.silt_cuckoo.proofs.Search.{some_or_none}
+use Rattle.std.proofs.Common.{unwrap_or}
+use Rattle.std.proofs.lemmas.Bool.{eq-eqb, ne_eqb}
+use Rattle.silt_cuckoo.specs.Placing.{moved_along}
 use Rattle.silt_cuckoo.proofs.Paths.{IsOn, NoneTwice, LeadsOn, HasTag}
 
 -- the slot from which the entry of a slot came
@@ -86,18 +86,11 @@ length_moved slots (s ∷ u ∷ path) = length-set (moved_along slots (u ∷ pat
 
 -- the place of an entry that moves
 place_moved : (slots : Slots) (s : ℕ) → option_map (λ (e : Entry). e.1) (moved_entry slots s) ≡ place_at slots s
-place_moved slots s = go (entry_at slots s)
-  where
-    go : (o : Option Entry) → option_map (λ (e : Entry). e.1) (option_map (λ (e : Entry). (s / 4, e.1)) o) ≡ option_map (λ (e : Entry). e.1) o
-    go None = refl
-    go (Some e) = refl
+place_moved slots s = elim (some_or_none (entry_at slots s)) [ inl none ↦ rw none | inr (e, is) ↦ rw is ]
 
 -- two buckets in either order are one pair
 pub pair_of-swap : (a b : ℕ) → pair_of a b ≡ pair_of b a
-pair_of-swap a b =
-    let low : min a b ≡ min b a = omega arith in
-    let high : max a b ≡ max b a = omega arith in
-    rw (low, high) refl
+pair_of-swap a b = let low : min a b ≡ min b a = omega arith in let high : max a b ≡ max b a = omega arith in cc
 
 -- the pair of an entry that moves to the bucket of its tag
 pair_moved : (slots : Slots) (s u : ℕ) → HasTag slots s (u / 4) → option_map (λ (e : Entry). pair_of (u / 4) e.0) (moved_entry slots s) ≡ pair_at slots s
@@ -111,12 +104,10 @@ place_at-moved_along slots (s ∷ []) x inside = refl
 place_at-moved_along slots (s ∷ u ∷ path) x inside = elim (cases_eq x u) [
   | inl same ↦
       let long : u < length (moved_along slots (u ∷ path)) = omega (arith, length_moved slots (u ∷ path), inside u (inr (inl refl))) in
-      let there = get_or-set_same (moved_along slots (u ∷ path)) u (moved_entry slots s) None long in
-      ap (place_at (slice_set (moved_along slots (u ∷ path)) u (moved_entry slots s))) same
-      ∙ ap (option_map (λ (e : Entry). e.1)) there ∙ place_moved slots s ∙ ap (place_at slots) (sym (source_next s u path x same))
+      cc (get_or-set_same (moved_along slots (u ∷ path)) u (moved_entry slots s) None long, place_moved slots s, source_next s u path x same)
   | inr other ↦
-      ap (option_map (λ (e : Entry). e.1)) (get_or-set_other (moved_along slots (u ∷ path)) u x (moved_entry slots s) None other)
-      ∙ place_at-moved_along slots (u ∷ path) x (λ t on. inside t (inr on)) ∙ ap (place_at slots) (sym (source_other s u path x other))
+      let rest = place_at-moved_along slots (u ∷ path) x (λ t on. inside t (inr on)) in
+      cc (get_or-set_other (moved_along slots (u ∷ path)) u x (moved_entry slots s) None other, source_other s u path x other)
 ]
 
 -- and the pair that its source had
@@ -127,12 +118,10 @@ pair_at-moved_along slots (s ∷ []) x leads inside = refl
 pair_at-moved_along slots (s ∷ u ∷ path) x leads inside = elim (cases_eq x u) [
   | inl same ↦
       let long : u < length (moved_along slots (u ∷ path)) = omega (arith, length_moved slots (u ∷ path), inside u (inr (inl refl))) in
-      let there = get_or-set_same (moved_along slots (u ∷ path)) u (moved_entry slots s) None long in
-      ap (pair_at (slice_set (moved_along slots (u ∷ path)) u (moved_entry slots s))) same
-      ∙ ap (option_map (λ (e : Entry). pair_of (u / 4) e.0)) there ∙ pair_moved slots s u leads.0 ∙ ap (pair_at slots) (sym (source_next s u path x same))
+      rw (same, source_next s u path u refl, get_or-set_same (moved_along slots (u ∷ path)) u (moved_entry slots s) None long) (pair_moved slots s u leads.0)
   | inr other ↦
-      ap (option_map (λ (e : Entry). pair_of (x / 4) e.0)) (get_or-set_other (moved_along slots (u ∷ path)) u x (moved_entry slots s) None other)
-      ∙ pair_at-moved_along slots (u ∷ path) x leads.1 (λ t on. inside t (inr on)) ∙ ap (pair_at slots) (sym (source_other s u path x other))
+      rw (source_other s u path x other, get_or-set_other (moved_along slots (u ∷ path)) u x (moved_entry slots s) None other)
+      (pair_at-moved_along slots (u ∷ path) x leads.1 (λ t on. inside t (inr on)))
 ]
 
 -- the tags after the moves are numbers of buckets

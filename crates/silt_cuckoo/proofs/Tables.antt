@@ -1,10 +1,8 @@
 -- What is a table.
-use Rattle.std.proofs.Common.{◌≡◌, ◌≢◌, inl, inr, ℕ, ◌*◌, ◌/◌, ◌<◌, zero, suc, length, replicate, get_or, Option, Some, None, IsSome, option_map, refl, sym, ap}
-use Rattle.std.proofs.Common.{◌∙◌, arith, get_or-set_other, get_or-set_same, length-set}
-use Rattle.std.proofs.lemmas.Bool.{cases_eq, cases_lt}
-use Rattle.std.proofs.lemmas.List.{length-replicate, get_or_past}
-use Rattle.silt_cuckoo.specs.Slots.{Slots, Entry, IsTable, IsBucketCount, HoldsPlace, bucket_count, empty_slots, entry_at, tag_at, place_at}
-use Rattle.silt_cuckoo.specs.Placing.{replaced}
+use Rattle.silt_cuckoo.proofs.Common.{◌≡◌, ◌≢◌, inl, inr, ℕ, ◌*◌, ◌/◌, ◌<◌, zero, suc, length, replicate, get_or, Option, Some, None, option_map, refl, sym, ap, ◌∙◌, arith, get_or-set_other}
+use Rattle.silt_cuckoo.proofs.Common.{get_or-set_same, length-set, cases_eq, cases_lt, length-replicate, get_or_past, Slots, Entry, IsTable, IsBucketCount, HoldsPlace, bucket_count, empty_slots}
+use Rattle.silt_cuckoo.proofs.Common.{entry_at, tag_at, place_at, replaced}
+use Rattle.std.proofs.Common.{IsSome}
 
 -- free slots have no entry
 pub entry_at-free : (n slot : ℕ) → get_or (replicate {A = Option Entry} n None) slot None ≡ None
@@ -69,11 +67,4 @@ replaced_table slots slot place table there is_new =
 
 -- a slot with an entry is one of the table's
 pub slot_inside : (slots : Slots) (slot : ℕ) → IsSome (entry_at slots slot) → slot < length slots
-slot_inside slots slot some = elim (cases_lt slot (length slots)) [
-  | inl there ↦ there
-  | inr past ↦ absurd (not_none (entry_at slots slot) some (get_or_past slots slot None past))
-]
-  where
-    not_none : (o : Option Entry) → IsSome o → o ≡ None → ⊥
-    not_none None some none = absurd (cc)
-    not_none (Some e) some none = absurd (cc)
+slot_inside slots slot some = elim (cases_lt slot (length slots)) [ inl there ↦ there | inr past ↦ absurd (cc (get_or_past slots slot None past)) ]

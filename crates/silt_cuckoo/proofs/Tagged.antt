@@ -1,13 +1,12 @@
 -- Whether a bucket has an entry with a tag.
-use Rattle.std.proofs.Common.{◌≡◌, ℕ, ◌+◌, ◌*◌, ◌≤◌, ◌<◌, ◌==◌, not, Bool, true, false, ◌||◌, cond, List, [], ◌∷◌, ◌++◌, length, get_or, slice_range, Option}
-use Rattle.std.proofs.Common.{Some, None, refl, sym, ap, ◌∙◌, arith, append-nil, is_some, option_and_then, eqb-true, ne_eqb}
-use Rattle.std.specs.List.{cons_option}
+use Rattle.silt_cuckoo.proofs.Common.{cases_Bool, ◌≡◌, ℕ, ◌+◌, ◌*◌, ◌≤◌, ◌<◌, ◌==◌, not, Bool, true, false, List, [], ◌∷◌, ◌++◌, length, get_or, Option, inl, inr, Some, None, refl, sym, ap, ◌∙◌}
+use Rattle.silt_cuckoo.proofs.Common.{arith, append-nil, cons_option, Candidate, Slot, has_candidates, match_at, matches_in, unpacked, unpacked_all, Slots, entry_at}
+use Rattle.silt_cuckoo.proofs.Search.{some_or_none}
+use Rattle.std.proofs.Common.{◌||◌, cond, slice_range}
+use Rattle.std.proofs.Common.{is_some, eqb-true, ne_eqb}
 use Rattle.std.proofs.lemmas.List.Edits.{get_or-between}
-use Rattle.silt_cuckoo.specs.declared.lookup.Candidate.{Candidate}
-use Rattle.silt_cuckoo.specs.declared.slot.Slot.{Slot}
-use Rattle.silt_cuckoo.specs.Lookup.{candidates_of, has_candidates, match_at, matches_in}
-use Rattle.silt_cuckoo.specs.Packed.{unpacked, unpacked_all}
-use Rattle.silt_cuckoo.specs.Slots.{Entry, Slots, entry_at, has_tag}
+use Rattle.silt_cuckoo.specs.Lookup.{candidates_of}
+use Rattle.silt_cuckoo.specs.Slots.{has_tag}
 use Rattle.silt_cuckoo.proofs.Unpacking.{entry_of_stored}
 
 -- a list has an element
@@ -18,30 +17,17 @@ some_in xs = not (length xs == 0)
 some_first : {X : Type 0} (x : X) (xs : List X) → some_in (x ∷ xs) ≡ true
 some_first x xs = ap not (ne_eqb (length (x ∷ xs)) 0 (λ none. absurd (omega arith)))
 
--- one after an element that may be there
-some_after : {X : Type 0} (o : Option X) (xs : List X) → some_in (cons_option o xs) ≡ (is_some o || some_in xs)
-some_after None xs = refl
-some_after (Some x) xs = some_first x xs
-
 -- one of two lists
 some_of_both : {X : Type 0} (xs ys : List X) → some_in (xs ++ ys) ≡ (some_in xs || some_in ys)
 some_of_both [] ys = refl
-some_of_both (x ∷ xs) ys = some_first x (xs ++ ys) ∙ ap (λ b. b || some_in ys) (sym (some_first x xs))
+some_of_both (x ∷ xs) ys = cc (some_first x (xs ++ ys), some_first x xs)
 
 -- a slot matches if it has the tag
 match_is : (slots : Slots) (tag slot : ℕ) → is_some (match_at slots tag slot) ≡ has_tag tag (entry_at slots slot)
-match_is slots tag slot = go (entry_at slots slot)
-  where
-    picked : Bool → ℕ → Option Candidate
-    picked b place = cond b (Some (record { slot = slot; place = place })) None
-
-    test : (b : Bool) (place : ℕ) → is_some (picked b place) ≡ b
-    test true place = refl
-    test false place = refl
-
-    go : (o : Option Entry) → is_some (option_and_then (λ (e : Entry). picked (e.0 == tag) e.1) o) ≡ has_tag tag o
-    go None = refl
-    go (Some (its_tag, place)) = test (its_tag == tag) place
+match_is slots tag slot = elim (some_or_none (entry_at slots slot)) [
+  | inl none ↦ rw none
+  | inr (e, is) ↦ rw is (elim (cases_Bool (e.0 == tag)) [ inl same ↦ rw same | inr other ↦ rw other ])
+]
 
 -- one of four elements that may be there
 four : {X : Type 0} (a b c d : Option X) → (((is_some a || is_some b) || is_some c) || is_some d) ≡ some_in (cons_option a (cons_option b (cons_option c (cons_option d []))))
@@ -61,8 +47,7 @@ match_of_four slots bucket tag d zeroth first second third there at_0 at_1 at_2 
     rw (
       at_0 ∙ match_in 0 s (omega arith) (omega arith),
       at_1 ∙ match_in 1 (s + 1) (omega arith) (omega arith),
-      at_2
-          ∙ match_in 2 (s + 1 + 1) (omega arith) (omega arith),
+      at_2 ∙ match_in 2 (s + 1 + 1) (omega arith) (omega arith),
       at_3 ∙ match_in 3 (s + 1 + 1 + 1) (omega arith) (omega arith),
     )
     (four (m s) (m (s + 1)) (m (s + 1 + 1)) (m (s + 1 + 1 + 1)))
@@ -72,10 +57,7 @@ match_of_four slots bucket tag d zeroth first second third there at_0 at_1 at_2 
 
     match_in : (i slot : ℕ) → i < 4 → 4 * bucket + i ≡ slot → has_tag tag (unpacked (get_or (slice_range slots (4 * bucket) (4 * bucket + 4)) i d)) ≡ is_some (match_at (unpacked_all slots) tag slot)
     match_in i slot small is =
-        ap (λ o. has_tag tag (unpacked o)) (get_or-between slots (4 * bucket) (4 * bucket + 4) i d (omega arith))
-        ∙ ap (has_tag tag) (sym (entry_of_stored slots (4 * bucket + i) d (omega arith)))
-        ∙ ap (λ n. has_tag tag (entry_at (unpacked_all slots) n)) is
-        ∙ sym (match_is (unpacked_all slots) tag slot)
+        cc (get_or-between slots (4 * bucket) (4 * bucket + 4) i d (omega arith), entry_of_stored slots (4 * bucket + i) d (omega arith), match_is (unpacked_all slots) tag slot)
 
 -- two buckets have a candidate if one of them has a match
 pub candidates_of_both : (slots : Slots) (first second : ℕ) (one two : Bool) → one ≡ some_in (matches_in slots first second)

@@ -1,9 +1,6 @@
 -- Stored slots and what they represent.
-use Rattle.std.proofs.Common.{◌≡◌, ℕ, zero, suc, ◌<◌, List, ◌∷◌, length, replicate, slice_set, get_or, None, refl, ap}
+use Rattle.silt_cuckoo.proofs.Common.{◌≡◌, ℕ, zero, suc, ◌<◌, List, ◌∷◌, length, replicate, slice_set, get_or, None, refl, ap, Slot, entry_at, unpacked, unpacked_all}
 use Rattle.std.proofs.lemmas.List.{get_or-map, map-set}
-use Rattle.silt_cuckoo.specs.declared.slot.Slot.{Slot}
-use Rattle.silt_cuckoo.specs.Slots.{entry_at}
-use Rattle.silt_cuckoo.specs.Packed.{unpacked, unpacked_all}
 
 -- a stored slot that is free
 abbrev pub free : Slot

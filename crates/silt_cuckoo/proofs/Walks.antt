@@ -1,18 +1,14 @@
 -- Laws of walks.
-use Rattle.std.proofs.Common.{◌≡◌, ℕ, zero, suc, ◌+◌, ◌<◌, ◌≤◌, List, [], ◌∷◌, ◌++◌, Some, None, option_map, option_and_then, refl, sym, ap, ◌∙◌, arith, ◌-◌, inl, inr}
-use Rattle.std.proofs.lemmas.Bool.{cases_lt}
-use Rattle.silt_cuckoo.specs.Slots.{Slots, tag_at}
-use Rattle.silt_cuckoo.specs.Placing.{turns, ended_walk, shortest_walk, bucket_after, victim, free_slot}
+use Rattle.silt_cuckoo.proofs.Common.{◌≡◌, ℕ, zero, suc, ◌+◌, ◌<◌, ◌≤◌, List, [], ◌∷◌, ◌++◌, Some, None, option_map, refl, sym, ap, ◌∙◌, arith, ◌-◌, inl, inr, cases_lt, Slots, tag_at, ended_walk}
+use Rattle.silt_cuckoo.proofs.Common.{bucket_after, victim, free_slot}
+use Rattle.silt_cuckoo.specs.Placing.{turns, shortest_walk}
 use Rattle.silt_cuckoo.proofs.Search.{first_at, first_nowhere}
 
 -- one more turn
 pub turns_next : (slots : Slots) (bucket n : ℕ) (path : List ℕ) → turns slots bucket n ≡ Some path
     → turns slots bucket (n + 1) ≡ option_map (λ slot. path ++ slot ∷ []) (victim slots path (bucket_after slots bucket path) n)
 unfolding turns
-turns_next slots bucket n path e =
-    let s : n + 1 ≡ suc n = omega arith in
-    ap (turns slots bucket) s
-    ∙ ap (option_and_then (λ p. option_map (λ slot. p ++ slot ∷ []) (victim slots p (bucket_after slots bucket p) n))) e
+turns_next slots bucket n path e = let s : n + 1 ≡ suc n = omega arith in rw (s, e)
 
 -- no turn comes after one without a victim
 pub turns_none : (slots : Slots) (bucket n k : ℕ) → turns slots bucket n ≡ None → turns slots bucket (n + k) ≡ None

@@ -1,6 +1,5 @@
 -- The lowest free slot of the first bucket, else of the second, else a walk.
-use Rattle.std.proofs.Common.{refl, sym, ◌∙◌}
-use Rattle.silt_cuckoo.specs.Packed.{unpacked_all}
+use Rattle.silt_cuckoo.proofs.Common.{refl, sym, ◌∙◌, unpacked_all}
 use Rattle.silt_cuckoo.proofs.Paths.{plan_first, plan_second, plan_walk}
 use Rattle.silt_cuckoo.proofs.cuckoo.find_path.Goals as goal
 

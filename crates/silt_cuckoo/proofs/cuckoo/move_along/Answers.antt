@@ -1,8 +1,5 @@
 -- Each turn of the loop moves one entry on.
-use Rattle.std.proofs.Common.{◌≡◌, ℕ, ◌+◌, ◌-◌, ◌/◌, length, drop, slice_index, option_map, sym, ap, ◌∙◌, arith, length-drop}
-use Rattle.silt_cuckoo.specs.Slots.{Entry}
-use Rattle.silt_cuckoo.specs.Packed.{unpacked, unpacked_all}
-use Rattle.silt_cuckoo.specs.Placing.{moved_along, moved_entry}
+use Rattle.silt_cuckoo.proofs.Common.{◌≡◌, ℕ, ◌+◌, ◌-◌, ◌/◌, length, drop, slice_index, option_map, sym, ap, ◌∙◌, arith, length-drop, Entry, unpacked, unpacked_all, moved_along, moved_entry}
 use Rattle.silt_cuckoo.proofs.Moves.{moved_last, moved_turn}
 use Rattle.silt_cuckoo.proofs.Unpacking.{entry_of_stored, unpacked_all_set}
 use Rattle.silt_cuckoo.proofs.cuckoo.move_along.Goals as goal

@@ -1,7 +1,5 @@
 -- The entries from this slot of the path on have moved.
-use Rattle.std.proofs.Common.{◌≡◌, ◌-◌, drop}
-use Rattle.silt_cuckoo.specs.Packed.{unpacked_all}
-use Rattle.silt_cuckoo.specs.Placing.{moved_along}
+use Rattle.silt_cuckoo.proofs.Common.{◌≡◌, ◌-◌, drop, unpacked_all, moved_along}
 use Rattle.silt_cuckoo.proofs.cuckoo.move_along.Given as goal
 
 abbrev pub invariant-loop-k : goal.invariant-loop-k

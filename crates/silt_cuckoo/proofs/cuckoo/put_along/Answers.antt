@@ -1,7 +1,6 @@
 -- The path leads on, names no slot twice and stays inside the table.
-use Rattle.std.proofs.Common.{◌<◌, length, refl, arith}
+use Rattle.silt_cuckoo.proofs.Common.{◌<◌, length, refl, arith, unpacked, unpacked_all}
 use Rattle.std.proofs.lemmas.List.{length-map}
-use Rattle.silt_cuckoo.specs.Packed.{unpacked, unpacked_all}
 use Rattle.silt_cuckoo.proofs.Paths.{plan_inside, plan_apart, plan_begins, plan_placed}
 use Rattle.silt_cuckoo.proofs.Unpacking.{unpacked_all_set}
 use Rattle.silt_cuckoo.proofs.cuckoo.put_along.Goals as goal

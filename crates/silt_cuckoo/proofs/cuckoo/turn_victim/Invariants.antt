@@ -1,7 +1,5 @@
 -- The slots of the earlier turns of the loop cannot move.
-use Rattle.std.proofs.Common.{◌≡◌, ℕ, ◌+◌, ◌*◌, ◌%◌, ◌≤◌, ◌<◌, false}
-use Rattle.silt_cuckoo.specs.Packed.{unpacked_all}
-use Rattle.silt_cuckoo.specs.Placing.{can_move}
+use Rattle.silt_cuckoo.proofs.Common.{◌≡◌, ℕ, ◌+◌, ◌*◌, ◌%◌, ◌≤◌, ◌<◌, false, unpacked_all, can_move}
 use Rattle.silt_cuckoo.proofs.cuckoo.turn_victim.Given as goal
 
 abbrev pub invariant-loop-k : goal.invariant-loop-k

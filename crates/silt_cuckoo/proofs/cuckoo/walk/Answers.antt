@@ -1,8 +1,6 @@
 -- Each turn of the loop is a turn of the walk.
-use Rattle.std.proofs.Common.{◌≡◌, [], ◌∷◌, Some, None, refl, sym, ap, ◌∙◌, arith, length-append}
-use Rattle.silt_cuckoo.specs.Slots.{Slots, tag_at}
-use Rattle.silt_cuckoo.specs.Packed.{unpacked_all}
-use Rattle.silt_cuckoo.specs.Placing.{turns, victim, free_slot}
+use Rattle.silt_cuckoo.proofs.Common.{◌≡◌, [], ◌∷◌, Some, None, refl, sym, ap, ◌∙◌, arith, length-append, Slots, tag_at, unpacked_all, victim, free_slot}
+use Rattle.silt_cuckoo.specs.Placing.{turns}
 use Rattle.silt_cuckoo.proofs.Walks.{turn_made, walk_stuck, walk_ends, walk_goes_on, shortest_never}
 use Rattle.silt_cuckoo.proofs.cuckoo.walk.Goals as goal
 

@@ -1,7 +1,6 @@
 -- The turns so far, the bucket after them, and that no walk has ended yet.
-use Rattle.std.proofs.Common.{◌≡◌, ℕ, ◌+◌, ◌*◌, ◌≤◌, ◌<◌, length, Some, None}
-use Rattle.silt_cuckoo.specs.Packed.{unpacked_all}
-use Rattle.silt_cuckoo.specs.Placing.{turns, ended_walk, bucket_after}
+use Rattle.silt_cuckoo.proofs.Common.{◌≡◌, ℕ, ◌+◌, ◌*◌, ◌≤◌, ◌<◌, length, Some, None, unpacked_all, ended_walk, bucket_after}
+use Rattle.silt_cuckoo.specs.Placing.{turns}
 use Rattle.silt_cuckoo.proofs.cuckoo.walk.Given as goal
 
 abbrev pub invariant-loop-turn : goal.invariant-loop-turn

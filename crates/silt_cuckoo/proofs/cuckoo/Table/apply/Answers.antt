@@ -1,11 +1,7 @@
 -- A table stays a table, and the new place has its pair.
-use Rattle.std.proofs.Common.{◌≡◌, ◌/◌, length, Some, sym, ap, ◌∙◌, arith}
+use Rattle.silt_cuckoo.proofs.Common.{◌≡◌, ◌/◌, length, Some, sym, ap, ◌∙◌, arith, IsTable, bucket_count, placed, unpacked_all, AddsPair}
 use Rattle.std.specs.Vec.{with_items}
 use Rattle.std.proofs.lemmas.List.{with_items_is}
-use Rattle.silt_cuckoo.specs.Slots.{IsTable, bucket_count}
-use Rattle.silt_cuckoo.specs.Placing.{placed}
-use Rattle.silt_cuckoo.specs.Packed.{unpacked_all}
-use Rattle.silt_cuckoo.specs.Pairs.{AddsPair}
 use Rattle.silt_cuckoo.proofs.Placed.{table_law, pair_law}
 use Rattle.silt_cuckoo.proofs.cuckoo.Table.apply.Goals as goal
 use Rattle.silt_cuckoo.proofs.cuckoo.Table.apply.Goals.{After-self-1}

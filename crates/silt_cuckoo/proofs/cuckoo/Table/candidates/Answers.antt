@@ -1,8 +1,5 @@
 -- The candidates are those of the rule.
-use Rattle.std.proofs.Common.{◌≡◌, refl, ap, ◌∙◌}
-use Rattle.silt_cuckoo.specs.Slots.{IsTable}
-use Rattle.silt_cuckoo.specs.Packed.{unpacked_all}
-use Rattle.silt_cuckoo.specs.Lookup.{candidates_of}
+use Rattle.silt_cuckoo.proofs.Common.{◌≡◌, refl, ap, ◌∙◌, IsTable, unpacked_all, candidates_of}
 use Rattle.silt_cuckoo.proofs.Matching.{candidates_exact, candidates_once, candidates_standing}
 use Rattle.silt_cuckoo.proofs.cuckoo.Table.candidates.Goals as goal
 

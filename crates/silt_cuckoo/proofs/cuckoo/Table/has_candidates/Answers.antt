@@ -1,6 +1,4 @@
-use Rattle.std.proofs.Common.{ap, ◌∙◌}
-use Rattle.silt_cuckoo.specs.Packed.{unpacked_all}
-use Rattle.silt_cuckoo.specs.Lookup.{has_candidates}
+use Rattle.silt_cuckoo.proofs.Common.{ap, ◌∙◌, unpacked_all, has_candidates}
 use Rattle.silt_cuckoo.proofs.Tagged.{candidates_of_both}
 use Rattle.silt_cuckoo.proofs.cuckoo.Table.has_candidates.Goals as goal
 

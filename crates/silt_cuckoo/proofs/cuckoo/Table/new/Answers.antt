@@ -1,7 +1,6 @@
 -- An empty table.
-use Rattle.std.proofs.Common.{rules, ◌≡◌, ◌*◌, replicate, ap, ◌∙◌}
-use Rattle.silt_cuckoo.specs.Slots.{empty_slots}
-use Rattle.silt_cuckoo.specs.Packed.{unpacked_all}
+use Rattle.silt_cuckoo.proofs.Common.{◌≡◌, ◌*◌, replicate, ap, ◌∙◌, empty_slots, unpacked_all}
+use Rattle.std.proofs.Common.{rules}
 use Rattle.silt_cuckoo.proofs.Unpacking.{free, unpacked_all_free}
 use Rattle.silt_cuckoo.proofs.Tables.{empty_table}
 use Rattle.silt_cuckoo.proofs.cuckoo.Table.new.Goals as goal

@@ -1,7 +1,5 @@
 -- The plan is that of the rule.
-use Rattle.std.proofs.Common.{◌≡◌, refl, ap, ◌∙◌}
-use Rattle.silt_cuckoo.specs.Placing.{plan_for}
-use Rattle.silt_cuckoo.specs.Packed.{unpacked_all}
+use Rattle.silt_cuckoo.proofs.Common.{◌≡◌, refl, ap, ◌∙◌, plan_for, unpacked_all}
 use Rattle.silt_cuckoo.proofs.Paths.{plan_stands, plan_gives_up}
 use Rattle.silt_cuckoo.proofs.cuckoo.Table.plan.Goals as goal
 

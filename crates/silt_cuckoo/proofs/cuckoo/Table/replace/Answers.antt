@@ -1,8 +1,5 @@
 -- One entry takes a new place.
-use Rattle.std.proofs.Common.{◌≡◌, ℕ, ◌/◌, length-set, slice_set, Some, ap, ◌∙◌}
-use Rattle.silt_cuckoo.specs.Slots.{IsTable, tag_at, bucket_count}
-use Rattle.silt_cuckoo.specs.Placing.{replaced}
-use Rattle.silt_cuckoo.specs.Packed.{unpacked_all}
+use Rattle.silt_cuckoo.proofs.Common.{◌≡◌, ◌/◌, length-set, slice_set, Some, ap, ◌∙◌, IsTable, tag_at, bucket_count, replaced, unpacked_all}
 use Rattle.silt_cuckoo.proofs.Unpacking.{unpacked_all_set}
 use Rattle.silt_cuckoo.proofs.Replaced.{replace_law}
 use Rattle.silt_cuckoo.proofs.Tables.{replaced_table, slot_inside}
@@ -11,10 +8,7 @@ use Rattle.silt_cuckoo.proofs.cuckoo.Table.replace.Goals.{After-self-1}
 
 -- the slots then
 after : (c : After-self-1) → unpacked_all (slice_set c.self.inside.slots.items c.args.slot c.new.result) ≡ replaced (unpacked_all c.self.inside.slots.items) c.args.slot c.args.place
-after c =
-    unpacked_all_set c.self.inside.slots.items c.args.slot c.new.result
-    ∙ ap (slice_set (unpacked_all c.self.inside.slots.items) c.args.slot)
-    (c.new.ensures ∙ ap (λ (tag : ℕ). Some (tag, c.args.place)) (c.tag_at-tag.ensures ∙ ap (λ s. tag_at (unpacked_all s) c.args.slot) c.as_slice.ensures.value))
+after c = cc (unpacked_all_set c.self.inside.slots.items c.args.slot c.new.result, c.new.ensures, c.tag_at-tag.ensures, c.as_slice.ensures.value)
 
 pub invariant_of-self : goal.invariant_of-self
 invariant_of-self c =

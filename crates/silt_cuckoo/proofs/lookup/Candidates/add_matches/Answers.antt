@@ -1,9 +1,6 @@
 -- Each turn of the loop adds the match of one slot.
-use Rattle.std.proofs.Common.{◌≡◌, ℕ, ◌+◌, ◌-◌, ◌*◌, ◌++◌, List, [], ◌∷◌, length, refl, sym, ap, ◌∙◌, arith, append_assoc, append-nil, length-append}
-use Rattle.std.specs.List.{range_with_len, filter_map, cons_option}
-use Rattle.silt_cuckoo.specs.declared.lookup.Candidate.{Candidate}
-use Rattle.silt_cuckoo.specs.Packed.{unpacked_all}
-use Rattle.silt_cuckoo.specs.Lookup.{match_at}
+use Rattle.silt_cuckoo.proofs.Common.{◌≡◌, ℕ, ◌+◌, ◌-◌, ◌*◌, ◌++◌, List, [], ◌∷◌, length, refl, sym, ap, ◌∙◌, arith, append_assoc, append-nil, length-append, range_with_len, filter_map, cons_option}
+use Rattle.silt_cuckoo.proofs.Common.{Candidate, unpacked_all, match_at}
 use Rattle.silt_cuckoo.proofs.Matching.{filter_map_more}
 use Rattle.silt_cuckoo.proofs.lookup.Candidates.add_matches.Goals as goal
 use Rattle.silt_cuckoo.proofs.lookup.Candidates.add_matches.Goals.{in-Some, in_default}

@@ -1,8 +1,5 @@
 -- The matches of the slots so far.
-use Rattle.std.proofs.Common.{◌≡◌, ◌+◌, ◌-◌, ◌*◌, ◌≤◌, ◌++◌, length}
-use Rattle.std.specs.List.{range_with_len, filter_map}
-use Rattle.silt_cuckoo.specs.Packed.{unpacked_all}
-use Rattle.silt_cuckoo.specs.Lookup.{match_at}
+use Rattle.silt_cuckoo.proofs.Common.{◌≡◌, ◌+◌, ◌-◌, ◌*◌, ◌≤◌, ◌++◌, length, range_with_len, filter_map, unpacked_all, match_at}
 use Rattle.silt_cuckoo.proofs.lookup.Candidates.add_matches.Given as goal
 
 abbrev pub invariant-loop-slot : goal.invariant-loop-slot
