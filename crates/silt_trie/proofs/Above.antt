@@ -1,16 +1,11 @@
 -- Lemmas on keys in rising order.
-use Rattle.std.proofs.Common.{◌≡◌, ℕ, ◌+◌, ◌-◌, ◌^◌, ◌<◌, ◌≤◌, true, List, [], ◌∷◌, ◌++◌, length, take, get_or, inl, inr, ◌*◌, Option, Some, None, refl, sym}
-use Rattle.std.proofs.Common.{ap, ◌∙◌, subst, arith, Ordering, nat_cmp, is_lt, Less, Equal, Greater}
-use Rattle.std.proofs.lemmas.List.{append_assoc, get_or_push, length_push, map-append}
+use Rattle.silt_trie.proofs.Common.{◌≡◌, ℕ, ◌+◌, ◌-◌, ◌^◌, ◌<◌, ◌≤◌, true, List, [], ◌∷◌, ◌++◌, length, get_or, inl, inr, Option, Some, None, refl, sym, ap, ◌∙◌, subst, arith, Ordering, is_lt, Less}
+use Rattle.silt_trie.proofs.Common.{get_or_push, length_push, slice_cmp, Key, Building, HasGroups, IsBuildingOf, group_of, group_under_way, Follows, IsCodable, bytes_of, cases_lt}
+use Rattle.std.proofs.Common.{nat_cmp}
+use Rattle.std.proofs.lemmas.List.{append_assoc, map-append}
 use Rattle.std.proofs.lemmas.List.Elements.{All-push}
-use Rattle.std.specs.Cmp.Lexicographic.{slice_cmp}
-use Rattle.silt_frame.specs.declared.key.Key.{Key}
-use Rattle.silt_trie.specs.Building.{Building, EndWith, HasGroups, IsBuildingOf, IsHeldBuilding, MayFollow, group_of, group_under_way}
-use Rattle.silt_trie.specs.Code.{Follows, IsCodable}
-use Rattle.silt_trie.specs.Coded.{bytes_of}
-use Rattle.silt_trie.specs.Marks.{marks_of}
+use Rattle.silt_trie.specs.Building.{EndWith, IsHeldBuilding, MayFollow}
 use Rattle.silt_trie.specs.declared.trie_builder.Groups.TheInside.{Inside}
-use Rattle.std.proofs.lemmas.Bool.{cases_lt}
 use Rattle.silt_trie.proofs.Codes.{bytes_at, length-bytes_of}
 use Rattle.silt_trie.proofs.Built.{ComesTo}
 use Rattle.silt_trie.proofs.Gathered.{codable_none, codable_push}
@@ -24,8 +19,7 @@ group_is (byte ∷ rest) small = omega arith
 -- what is lower is so
 less_from : (o : Ordering) → is_lt o ≡ true → o ≡ Less
 less_from Less is = refl
-less_from Equal is = absurd (cc)
-less_from Greater is = absurd (cc)
+less_from o is = absurd (cc)
 
 -- a key that is above another by its bytes
 pub may_follow : (a b : List ℕ) → length a ≡ 20 → length b ≡ 20 → ((i : ℕ) → get_or a i 0 < 256) → ((i : ℕ) → get_or b i 0 < 256) → is_lt (slice_cmp nat_cmp a b) ≡ true → MayFollow a b
@@ -47,10 +41,7 @@ bytes_push keys key = map-append (λ (key : Key). key.0) keys (key ∷ [])
 
 -- the key that keys end with
 last_key : (keys : List (List ℕ)) (last : Key) → EndWith keys (Some last) → get_or keys (length keys - 1) [] ≡ last.0
-last_key keys last end =
-    let front = end.0 in
-    let size = ap length end.1 ∙ length_push front last.0 in
-    ap (λ (ks : List (List ℕ)). get_or ks (length keys - 1) []) end.1 ∙ get_or_push front last.0 [] (length keys - 1) (omega arith)
+last_key keys last end = rw end.1 (get_or_push end.0 last.0 [] (length (end.0 ++ last.0 ∷ []) - 1) (omega (arith, length_push end.0 last.0)))
 
 -- keys with one more can be coded
 pub codable_next : (keys : List (List ℕ)) (o : Option Key) (key : List ℕ) → IsCodable keys 0 → length keys + 2 < 2 ^ 32 → EndWith keys o
@@ -68,17 +59,15 @@ group_later (Some last) key next = (next last refl).later
 pub group_push : (n : ℕ) (keys : List (List ℕ)) (key : Key) (old new : Building) → HasGroups n keys old → group_of key.0 ≡ n
     → new.code ≡ old.code → new.marks ≡ old.marks → new.levels ≡ old.levels → new.group ≡ old.group ++ key ∷ [] → new.count ≡ old.count + 1 → HasGroups n (keys ++ key.0 ∷ []) new
 group_push n keys key old new has here code marks levels group count =
-    let more : bytes_of new.group ≡ bytes_of old.group ++ key.0 ∷ [] = ap bytes_of group ∙ bytes_push old.group key in
-    let counted = has.count_is in
-    let size = length_push keys key.0 in
+    let more : bytes_of new.group ≡ bytes_of old.group ++ key.0 ∷ [] = cc (bytes_push old.group key) in
     record {
       done = has.done;
-      keys_are = ap (λ (ks : List (List ℕ)). ks ++ key.0 ∷ []) has.keys_are ∙ append_assoc has.done (bytes_of old.group) (key.0 ∷ []) ∙ ap (λ (ks : List (List ℕ)). has.done ++ ks) (sym more);
-      count_is = omega arith;
+      keys_are = cc (append_assoc has.done (bytes_of old.group) (key.0 ∷ []));
+      count_is = omega (arith, has.count_is, length_push keys key.0);
       lower = has.lower;
       alike = rw more (All-push (λ key. group_of key ≡ n) (bytes_of old.group) key.0 has.alike here);
       code_is = code ∙ has.code_is;
-      marks_are = marks ∙ has.marks_are ∙ ap (λ (m : ℕ). take (n * 2 ^ (m - 8)) (marks_of m 8 has.done 0 0 0)) (sym levels);
+      marks_are = cc;
     }
 
 -- the builder of these fields
@@ -90,17 +79,12 @@ held_next : (n : ℕ) (old now : Building) → IsHeldBuilding old → ComesTo n 
 held_next n old now held comes = elim (cases_lt (group_under_way old.last) n) [
   | inr upto ↦ rw (comes.same upto) held
   | inl later ↦
-      let most = held.levels in
-      let counted = held.few in
-      let levels = comes.levels in
-      let stays = comes.stays.0 in
       let none = comes.empty later in
-      let size = ap length none in
       record {
         levels = (omega arith, omega arith);
-        few = (omega arith, omega arith);
-        codable = subst (λ (ks : List Key). IsCodable (bytes_of ks) 8) (sym none) (codable_none 8);
-        last_is = λ key some. absurd (omega arith);
+        few = (omega (arith, ap length none), omega arith);
+        codable = rw none (codable_none 8);
+        last_is = λ key some. absurd (omega (arith, ap length none));
       }
 ]
 
@@ -109,23 +93,17 @@ pub waiting_push : (n : ℕ) (old now : Building) (key : Key) (new : List Key) �
     → ((before : Key) → old.last ≡ Some before → MayFollow before.0 key.0) → new ≡ now.group ++ key ∷ [] → IsCodable (bytes_of new) 8
 waiting_push n old now key new held comes group few next new_is =
     let size = length-bytes_of now.group in
-    let within = held.few.0 in
     let before = get_or now.group (length now.group - 1) key in
     let first : 0 < length (bytes_of now.group) → Follows 8 (get_or (bytes_of now.group) (length (bytes_of now.group) - 1) []) key.0 = λ some.
     let is : old.last ≡ Some before = sym comes.stays.1 ∙ held.last_is key (omega arith) in
     let above = next before is in
-    let later = above.later in
     let way : group_under_way old.last ≡ group_of before.0 = ap group_under_way is in
     let here : group_of before.0 ≡ group_of key.0 = elim (cases_lt (group_of before.0) (group_of key.0)) [
       | inl earlier ↦ let none = ap length (comes.empty (omega arith)) in absurd (omega arith)
-      | inr upto ↦ omega arith
+      | inr upto ↦ omega (arith, above.later)
     ] in
-    let place : length (bytes_of now.group) - 1 ≡ length now.group - 1 = omega arith in
-    let bytes : get_or (bytes_of now.group) (length (bytes_of now.group) - 1) [] ≡ before.0 =
-    ap (λ (i : ℕ). get_or (bytes_of now.group) i []) place ∙ bytes_at now.group (length now.group - 1) key (omega arith) in
-    subst (λ (ks : List ℕ). Follows 8 ks key.0) (sym bytes) (above.grouped here) in
-    let codable = codable_push 8 (bytes_of now.group) key.0 held.codable (omega arith) first in
-    subst (λ (ks : List (List ℕ)). IsCodable ks 8) (sym (ap bytes_of new_is ∙ bytes_push now.group key)) codable
+    rw (size, bytes_at now.group (length now.group - 1) key (omega arith)) (above.grouped here) in
+    rw (new_is, bytes_push) (codable_push 8 (bytes_of now.group) key.0 held.codable (omega arith) first)
 
 -- what holds stays true with one more key
 pub held_push : (n : ℕ) (old now new : Building) (key : Key) → IsHeldBuilding old → ComesTo n old now → n ≡ group_of key.0 → old.count + 2 < 2 ^ 32
@@ -133,16 +111,12 @@ pub held_push : (n : ℕ) (old now new : Building) (key : Key) → IsHeldBuildin
     → new.last ≡ Some key → new.levels ≡ now.levels → IsHeldBuilding new
 held_push n old now new key held comes group few next group_is count last levels =
     let held_now = held_next n old now held comes in
-    let most = held_now.levels in
-    let counted = held_now.few in
-    let stay = comes.stays.0 in
     let size = ap length group_is ∙ length_push now.group key in
     record {
       levels = (omega arith, omega arith);
       few = (omega arith, omega arith);
       codable = waiting_push n old now key new.group held_now comes group (omega arith) next group_is;
-      last_is = λ other some. last ∙ ap (λ (k : Key). Some k)
-          (sym (ap (λ (ks : List Key). get_or ks (length new.group - 1) other) group_is ∙ get_or_push now.group key other (length new.group - 1) (omega arith)));
+      last_is = λ other some. cc (get_or_push now.group key other (length new.group - 1) (omega arith));
     }
 
 -- and the trie is built with it
@@ -151,7 +125,6 @@ pub built_push : (n : ℕ) (old now new : Building) (key : Key) (keys : List (Li
     → new.last ≡ Some key → new.levels ≡ now.levels → new.code ≡ now.code → new.marks ≡ now.marks → IsBuildingOf (keys ++ key.0 ∷ []) new
 built_push n old now new key keys building comes group few next group_is count last levels code marks =
     let later = group_later old.last key.0 next in
-    let counted = building.groups.count_is in
     let has = comes.coded keys building.groups (omega arith) in
     let way : n ≡ group_under_way new.last = group ∙ sym (ap group_under_way last) in
     record {

@@ -1,14 +1,7 @@
 -- Lemmas on a trie that is built from keys one after the other.
-use Rattle.std.proofs.Common.{◌≡◌, ℕ, ◌+◌, ◌-◌, ◌*◌, ◌^◌, ◌<◌, ◌≤◌, List, [], ◌∷◌, ◌++◌, length, take, Option, None, Result, IfOk, refl, sym, ap, ◌∙◌, subst}
-use Rattle.std.proofs.Common.{arith, append-nil, length-append, take_all}
-use Rattle.std.proofs.lemmas.List.Elements.{All-append}
-use Rattle.std.proofs.lemmas.Result.{IfOk-weaker}
-use Rattle.silt_frame.specs.declared.key.Key.{Key}
-use Rattle.silt_trie.specs.Building.{Building, HasGroups, IsBuildingOf, group_of, group_under_way, trie_in}
-use Rattle.silt_trie.specs.Code.{IsCodable, trie_code}
-use Rattle.silt_trie.specs.Coded.{Grows, bytes_of}
-use Rattle.silt_trie.specs.Marks.{IsMadeOf, MarkedCode, grouped_code, mark_behind, marks_of}
-use Rattle.silt_trie.specs.declared.marks.Mark.{Mark}
+use Rattle.silt_trie.proofs.Common.{◌≡◌, ℕ, ◌+◌, ◌-◌, ◌*◌, ◌^◌, ◌<◌, ◌≤◌, List, [], ◌∷◌, ◌++◌, length, Option, None, refl, sym, ap, ◌∙◌, take, arith, All-append, Key, Building, HasGroups}
+use Rattle.silt_trie.proofs.Common.{IsBuildingOf, group_of, group_under_way, trie_in, IsCodable, trie_code, Grows, bytes_of, IsMadeOf, MarkedCode, grouped_code, mark_behind, marks_of, Mark}
+use Rattle.std.proofs.Common.{append-nil, length-append, take_all}
 use Rattle.silt_trie.proofs.Codes.{length-bytes_of}
 use Rattle.silt_trie.proofs.Gathered.{codable_none}
 use Rattle.silt_trie.proofs.Growing.{grows_more, grows_none}
@@ -18,12 +11,7 @@ use Rattle.silt_trie.proofs.MarkedKeys.{length-marks_of}
 -- at first it is built of no keys
 pub built_none : (b : Building) → b.code ≡ [] → b.marks ≡ [] → b.group ≡ [] → b.count ≡ 0 → b.last ≡ None → IsBuildingOf [] b
 built_none b code marks group count last =
-    let size = ap length group in
-    let waiting = length-bytes_of b.group in
-    let under_way : group_under_way b.last ≡ 0 = ap group_under_way last in
-    let times = ap (λ (n : ℕ). n * 2 ^ (b.levels - 8)) under_way in
-    let none : group_under_way b.last * 2 ^ (b.levels - 8) ≡ 0 = omega arith in
-    let no_marks = ap (λ (n : ℕ). take n (marks_of b.levels 8 [] 0 0 0)) none in
+    let none : group_under_way b.last * 2 ^ (b.levels - 8) ≡ 0 = rw last (omega arith) in
     record {
       codable = codable_none 0;
       last_is = rw last refl;
@@ -32,9 +20,9 @@ built_none b code marks group count last =
         keys_are = sym (ap bytes_of group);
         count_is = count;
         lower = λ i other h. absurd (omega arith);
-        alike = λ i other h. absurd (omega arith);
-        code_is = code ∙ sym (grouped_none 8 0);
-        marks_are = marks ∙ sym no_marks;
+        alike = λ i other h. absurd (omega (arith, length-bytes_of b.group, ap length group));
+        code_is = cc (grouped_none 8 0);
+        marks_are = cc;
       };
     }
 
@@ -48,7 +36,6 @@ coded_group n keys old new place small has most levels count none place_is code 
     let waiting = bytes_of old.group in
     let both = ap length has.keys_are ∙ length-append done waiting in
     let size = length-bytes_of old.group in
-    let counted = has.count_is in
     let empty = ap length none in
     let left = length-bytes_of new.group in
     let behind : place ≡ 0 + length done = omega arith in
@@ -56,7 +43,7 @@ coded_group n keys old new place small has most levels count none place_is code 
     let front = take (n * 2 ^ k) (marks_of old.levels 8 done 0 0 0) in
     record {
       done = done ++ waiting;
-      keys_are = has.keys_are ∙ sym (append-nil (done ++ waiting)) ∙ ap (λ (ks : List Key). done ++ waiting ++ bytes_of ks) (sym none);
+      keys_are = rw (none, append-nil) has.keys_are;
       count_is = sym count ∙ has.count_is;
       lower = All-append (λ key. group_of key < n + 1) done waiting (λ i other h. let lower = has.lower i other h in omega arith) (λ i other h. let alike = has.alike i other h in omega arith);
       alike = λ i other h. absurd (omega arith);
@@ -73,17 +60,11 @@ pub made_of : (keys : List (List ℕ)) (b : Building) (made : MarkedCode) → Is
 made_of keys b made codable has most made_is =
     let done = has.done in
     let none : bytes_of b.group ≡ [] = none_below (λ key. group_of key ≡ 256) (bytes_of b.group) (λ key is. let small = number_below 8 0 key in omega arith) has.alike in
-    let all : done ≡ keys = sym (append-nil done) ∙ ap (λ (ks : List (List ℕ)). done ++ ks) (sym none) ∙ sym has.keys_are in
+    let all : done ≡ keys = cc (append-nil done) in
     let size = length-marks_of b.levels 8 done 0 0 0 in
     let power = powers b.levels 8 (b.levels - 8) (omega arith) in
     let whole = take_all (256 * 2 ^ (b.levels - 8)) (marks_of b.levels 8 done 0 0 0) (omega arith) in
-    rw made_is (record {
-      codable = codable;
-      code_is = has.code_is ∙ ap (λ (ks : List (List ℕ)). grouped_code 8 ks 0) all;
-      marks_are = ap (λ (ms : List Mark). ms ++ mark_behind b.code b.count ∷ []) (has.marks_are ∙ whole ∙ ap (λ (ks : List (List ℕ)). marks_of b.levels 8 ks 0 0 0) all)
-          ∙ ap (λ (n : ℕ). marks_of b.levels 8 keys 0 0 0 ++ mark_behind b.code n ∷ []) has.count_is;
-      count_is = has.count_is;
-    })
+    rw made_is (record { codable = codable; code_is = cc; marks_are = cc; count_is = has.count_is })
 
 -- Code and marks once groups from `first` up to `at` are coded, of which the first one has these keys and the others none; and the keys
 -- that still wait.
@@ -114,7 +95,6 @@ pub codes_more : (first at count levels place : ℕ) (keys waiting : List Key) (
     → place ≡ count - length waiting → new_code ≡ code ++ trie_code (bytes_of waiting) 8 → new_marks ≡ marks ++ marks_of (levels - 8) 0 (bytes_of waiting) 8 (length code) place
     → CodesGroups first (at + 1) count levels keys [] old new_code before new_marks
 codes_more first at count levels place keys waiting old code new_code before marks new_marks small most codes place_is code_is marks_is =
-    let from = codes.from in
     record {
       from = omega arith;
       coded = λ all last has.
@@ -137,8 +117,8 @@ pub record ComesTo (n : ℕ) (old now : Building) : Type 0 where
 
 -- it is there already
 pub comes_no_further : (n from : ℕ) (b now : Building) → from ≡ group_under_way b.last → n ≤ from → now ≡ b → ComesTo n b now
-comes_no_further n from b now start upto is = subst (λ (x : Building). ComesTo n b x) (sym is) (record {
-  coded = λ keys has later. let same : group_under_way b.last ≡ n = omega arith in subst (λ (m : ℕ). HasGroups m keys b) same has;
+comes_no_further n from b now start upto is = rw is (record {
+  coded = λ keys has later. let same : group_under_way b.last ≡ n = omega arith in rw same at has;
   empty = λ h. absurd (omega arith);
   same = λ h. refl;
   stays = (refl, refl);
@@ -151,9 +131,8 @@ pub comes_to : (n from : ℕ) (b now : Building) (code : List ℕ) (marks : List
     → ((all : List (List ℕ)) (last : Option Key) → HasGroups from all (record { code = b.code; marks = b.marks; group = keys; count = b.count; last = last; levels = b.levels })
     → HasGroups n all (record { code = code; marks = marks; group = []; count = b.count; last = last; levels = b.levels })) → ComesTo n b now
 comes_to n from b now code marks keys none start later keys_are none_is is coded =
-    let made : Building = record { code = code; marks = marks; group = []; count = b.count; last = b.last; levels = b.levels } in
-    let now_is : now ≡ made = is ∙ ap (λ (group : List Key). record { code = code; marks = marks; group = group; count = b.count; last = b.last; levels = b.levels }) none_is in
-    subst (λ (x : Building). ComesTo n b x) (sym now_is) (record {
+    let now_is : now ≡ record { code = code; marks = marks; group = []; count = b.count; last = b.last; levels = b.levels } = cc in
+    rw now_is (record {
       coded = λ all has upto. coded all b.last (rw (start, keys_are) has);
       empty = λ h. refl;
       same = λ h. absurd (omega arith);

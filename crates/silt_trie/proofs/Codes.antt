@@ -1,11 +1,10 @@
 -- Lemmas on the code of a trie.
-use Rattle.std.proofs.Common.{◌≡◌, ℕ, zero, suc, ◌+◌, ◌-◌, ◌<◌, ◌≤◌, List, [], ◌∷◌, ◌++◌, length, take, drop, get_or, refl, sym, ap, ◌∙◌, inl, inr, ◌⊎◌, arith, length-drop}
+use Rattle.silt_trie.proofs.Common.{◌≡◌, ℕ, zero, suc, ◌+◌, ◌-◌, ◌<◌, ◌≤◌, List, [], ◌∷◌, ◌++◌, length, take, drop, get_or, refl, sym, ap, ◌∙◌, inl, inr, arith, length-drop, cases_lt}
+use Rattle.silt_trie.proofs.Common.{BeginsWithCode, bit_of, with_bit, trie_code, Follows, IsCodable, StandsAt, bytes_of, Key}
+use Rattle.std.proofs.Common.{◌⊎◌}
 use Rattle.std.proofs.lemmas.List.{append_assoc, get_or-take, get_or-drop, take-map, drop-map, get_or-map, length-map}
-use Rattle.std.proofs.lemmas.Bool.{cases_lt}
-use Rattle.silt_gamma.specs.Gamma.{gamma_code, BeginsWithCode}
-use Rattle.silt_trie.specs.Code.{bit_of, with_bit, code_within, trie_code, Follows, IsCodable, StandsAt}
-use Rattle.silt_trie.specs.Coded.{bytes_of}
-use Rattle.silt_frame.specs.declared.key.Key.{Key}
+use Rattle.silt_gamma.specs.Gamma.{gamma_code}
+use Rattle.silt_trie.specs.Code.{code_within}
 use Rattle.silt_trie.proofs.Order.{not_tied}
 use Rattle.silt_trie.proofs.Sides.{divides}
 
@@ -49,19 +48,12 @@ split_code keys d many within =
 pub node : (keys : List (List ℕ)) (d : ℕ) (bits rest : List ℕ) → IsCodable keys d → 2 ≤ length keys → d < 160 → bits ≡ trie_code keys d ++ rest
     → BeginsWithCode bits (length (with_bit 0 d keys) + 1) (trie_code (with_bit 0 d keys) (d + 1) ++ (trie_code (with_bit 1 d keys) (d + 1) ++ rest))
 node keys d bits rest codable many within is =
-    let n = length (with_bit 0 d keys) in
-    let lefts = trie_code (with_bit 0 d keys) (d + 1) in
-    let rights = trie_code (with_bit 1 d keys) (d + 1) in
     let inside = (divides d keys codable).within in
-    let limit = codable.few in
-    record {
-      in_range = (omega arith, omega arith);
-      split = is ∙ ap (λ (xs : List ℕ). xs ++ rest) (split_code keys d many within) ∙ append_assoc (gamma_code (n + 1) ++ lefts) rights rest ∙ append_assoc (gamma_code (n + 1)) lefts (rights ++ rest);
-    }
+    record { in_range = (omega arith, omega arith); split = simp (is, split_code keys d many within, append_assoc) }
 
 -- how many keys are on the right
 pub length_rights : (d : ℕ) (keys : List (List ℕ)) → IsCodable keys d → length (with_bit 1 d keys) ≡ length keys - length (with_bit 0 d keys)
-length_rights d keys codable = let split = divides d keys codable in ap length split.rights ∙ length-drop (length (with_bit 0 d keys)) keys
+length_rights d keys codable = rw ((divides d keys codable).rights, length-drop)
 
 -- no more keys are on the left than there are
 pub left_within : (d : ℕ) (keys : List (List ℕ)) → IsCodable keys d → length (with_bit 0 d keys) ≤ length keys
@@ -84,7 +76,6 @@ stands_right d i key keys codable stands high =
     let split = divides d keys codable in
     let here = ap (bit_of d) stands.1 in
     let count = length_rights d keys codable in
-    let inside = stands.0 in
     let past : m ≤ i = elim (cases_lt i m) [ inl below ↦ let zero_bit = split.zeros i below in absurd (high (omega arith)) | inr past ↦ past ] in
     let place : m + (i - m) ≡ i = omega arith in
     (past, (omega arith, ap (λ (ks : List (List ℕ)). get_or ks (i - m) []) split.rights ∙ get_or-drop m keys (i - m) [] ∙ ap (λ (j : ℕ). get_or keys j []) place ∙ stands.1))
@@ -125,22 +116,17 @@ pub written : (d left : ℕ) (keys : List Key) (lefts rights : List Key) (old fi
     → third ≡ second ++ trie_code (bytes_of rights) (d + 1)
     → third ≡ old ++ trie_code (bytes_of keys) d
 written d left keys lefts rights old first second third codable many within count front back one two three =
-    let size = length-bytes_of keys in
     let ls = trie_code (bytes_of lefts) (d + 1) in
     let rs = trie_code (bytes_of rights) (d + 1) in
-    let whole : trie_code (bytes_of keys) d ≡ gamma_code (left + 1) ++ ls ++ rs =
-    split_code (bytes_of keys) d (omega arith) within
-    ∙ ap (λ (n : ℕ). gamma_code (n + 1) ++ trie_code (with_bit 0 d (bytes_of keys)) (d + 1) ++ trie_code (with_bit 1 d (bytes_of keys)) (d + 1)) (sym count)
-    ∙ ap (λ (ks : List (List ℕ)). gamma_code (left + 1) ++ trie_code ks (d + 1) ++ trie_code (with_bit 1 d (bytes_of keys)) (d + 1)) (sym (bytes_lefts d left keys lefts codable count front))
-    ∙ ap (λ (ks : List (List ℕ)). gamma_code (left + 1) ++ ls ++ trie_code ks (d + 1)) (sym (bytes_rights d left keys rights codable count back))
-    in
-    three ∙ ap (λ (xs : List ℕ). xs ++ rs) (two ∙ ap (λ (xs : List ℕ). xs ++ ls) one ∙ append_assoc old (gamma_code (left + 1)) ls)
-    ∙ append_assoc old (gamma_code (left + 1) ++ ls) rs ∙ ap (λ (xs : List ℕ). old ++ xs) (sym whole)
+    let l = bytes_lefts d left keys lefts codable count front in
+    let r = bytes_rights d left keys rights codable count back in
+    let whole = split_code (bytes_of keys) d (omega (arith, length-bytes_of keys)) within in
+    cc (append_assoc old (gamma_code (left + 1)) ls, append_assoc old (gamma_code (left + 1) ++ ls) rs)
 
 -- bits behind a code that is empty
 pub after_none : (keys : List (List ℕ)) (d : ℕ) (bits rest : List ℕ) → IsCodable keys d → (length keys < 2) ⊎ (160 ≤ d) → bits ≡ trie_code keys d ++ rest → bits ≡ rest
-after_none keys d bits rest codable (inl few) is = is ∙ ap (λ (xs : List ℕ). xs ++ rest) (short_code keys d few)
-after_none keys d bits rest codable (inr deep) is = is ∙ ap (λ (xs : List ℕ). xs ++ rest) (deep_code keys d deep)
+after_none keys d bits rest codable (inl few) is = cc (short_code keys d few)
+after_none keys d bits rest codable (inr deep) is = cc (deep_code keys d deep)
 
 -- the only key is the first
 pub only_place : (keys : List (List ℕ)) (d i : ℕ) (key : List ℕ) → IsCodable keys d → (length keys < 2) ⊎ (160 ≤ d) → StandsAt keys i key → 0 ≡ i

@@ -1,8 +1,5 @@
 -- Lemmas for callers that gather keys one by one.
-use Rattle.std.proofs.Common.{◌≡◌, ℕ, ◌+◌, ◌-◌, ◌^◌, ◌<◌, List, [], ◌∷◌, ◌++◌, length, get_or, inl, inr, arith}
-use Rattle.std.proofs.lemmas.Bool.{cases_lt}
-use Rattle.std.proofs.lemmas.List.{get_or_append_left, get_or_push, length_push}
-use Rattle.silt_trie.specs.Code.{Follows, IsCodable}
+use Rattle.silt_trie.proofs.Common.{◌≡◌, ℕ, ◌+◌, ◌-◌, ◌^◌, ◌<◌, List, [], ◌∷◌, ◌++◌, length, get_or, inl, inr, arith, cases_lt, get_or_append_left, get_or_push, length_push, Follows, IsCodable}
 
 -- no keys can be coded
 pub codable_none : (d : ℕ) → IsCodable [] d

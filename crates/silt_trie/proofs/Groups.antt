@@ -1,13 +1,10 @@
 -- Lemmas on keys whose groups come one after the other.
-use Rattle.std.proofs.Common.{◌≡◌, ℕ, zero, suc, ◌+◌, ◌-◌, ◌*◌, ◌^◌, ◌<◌, ◌≤◌, ◌==◌, List, [], ◌∷◌, ◌++◌, length, take, get_or, refl, sym, ap, ◌∙◌, inl, inr, arith, All, pow-add}
-use Rattle.std.proofs.lemmas.Bool.{cases_eq, cases_lt, eqb-true}
+use Rattle.silt_trie.proofs.Common.{◌≡◌, ℕ, zero, suc, ◌+◌, ◌-◌, ◌*◌, ◌^◌, ◌<◌, ◌≤◌, List, [], ◌∷◌, ◌++◌, length, take, get_or, refl, sym, ap, ◌∙◌, inl, inr, arith, cases_eq, cases_lt, All-append}
+use Rattle.silt_trie.proofs.Common.{pow-succ', mul-le-mul_right, take-append-add, bit_of, with_bit, trie_code, grouped_code, marks_of, number_of_bits, prefix_of}
+use Rattle.std.proofs.Common.{◌==◌, All, pow-add}
+use Rattle.std.proofs.lemmas.Bool.{eqb-true}
 use Rattle.std.proofs.lemmas.List.{append_assoc, append-nil, length-append, take_all, take-append-le}
-use Rattle.std.proofs.lemmas.List.Elements.{All-append, All-filter, All-head, All-tail, filter-append, filter_passes}
-use Rattle.std.proofs.Math.Nat.{pow-succ', mul-le-mul_right}
-use Rattle.std.proofs.Math.Seq.{take-append-add}
-use Rattle.silt_trie.specs.Code.{bit_of, with_bit, trie_code}
-use Rattle.silt_trie.specs.Marks.{grouped_code, marks_of, number_of_bits, prefix_of}
-use Rattle.silt_trie.specs.declared.marks.Mark.{Mark}
+use Rattle.std.proofs.lemmas.List.Elements.{All-filter, All-head, All-tail, filter-append, filter_passes}
 use Rattle.silt_trie.proofs.Codes.{short_code}
 use Rattle.silt_trie.proofs.KeyBits.{bit_small}
 use Rattle.silt_trie.proofs.MarkedKeys.{length-marks_of, length-prefix_of, number_small, prefix_bits}
@@ -23,10 +20,7 @@ number_split g d key = ap (λ (k : ℕ). bit_of d key * 2 ^ k + number_at g (d +
 
 -- it has no more bits
 pub number_below : (g d : ℕ) (key : List ℕ) → number_at g d key < 2 ^ g
-number_below g d key =
-    let small = number_small (prefix_of g d key) (prefix_bits g d key) in
-    let size = ap (λ (k : ℕ). 2 ^ k) (length-prefix_of g d key) in
-    omega arith
+number_below g d key = rw (length-prefix_of g d key) at (number_small (prefix_of g d key) (prefix_bits g d key))
 
 -- in the lower half the first bit is 0
 low_half : (g d : ℕ) (key : List ℕ) → number_at (suc g) d key < 2 ^ g → (bit_of d key ≡ 0) × (number_at g (d + 1) key ≡ number_at (suc g) d key)
@@ -75,10 +69,25 @@ grouped_none (suc g) d = ap (λ (xs : List ℕ). xs ++ grouped_code g [] (d + 1)
 -- keys whose next bit is 0 are all on the left
 low_group : (g d : ℕ) (keys : List (List ℕ)) → All (λ key. bit_of d key ≡ 0) keys → grouped_code (suc g) keys d ≡ grouped_code g keys (d + 1)
 low_group g d keys low =
-    ap (λ (ks : List (List ℕ)). grouped_code g ks (d + 1) ++ grouped_code g (with_bit 1 d keys) (d + 1)) (all_kept 0 d keys low)
-    ∙ ap (λ (ks : List (List ℕ)). grouped_code g keys (d + 1) ++ grouped_code g ks (d + 1)) (none_kept 1 0 d keys (λ e. absurd (omega arith)) low)
-    ∙ ap (λ (xs : List ℕ). grouped_code g keys (d + 1) ++ xs) (grouped_none g (d + 1))
-    ∙ append-nil (grouped_code g keys (d + 1))
+    let right = none_kept 1 0 d keys (λ e. absurd (omega arith)) low in
+    cc (all_kept 0 d keys low, grouped_none g (d + 1), append-nil (grouped_code g keys (d + 1)))
+
+-- those with bit 1 have lower numbers behind it
+-- keys with numbers in the lower half have bit 0, and behind it the same numbers
+lows : (g d : ℕ) (P : ℕ → Type 0) (keys : List (List ℕ)) → ((n : ℕ) → P n → n < 2 ^ g) → All (λ key. P (number_at (suc g) d key)) keys
+    → All (λ key. bit_of d key ≡ 0) keys × All (λ key. P (number_at g (d + 1) key)) keys
+lows g d P keys below all = (
+  λ k other h. (low_half g d (get_or keys k other) (below _ (all k other h))).0,
+  λ k other h. rw (low_half g d (get_or keys k other) (below _ (all k other h))).1 (all k other h),
+)
+
+-- keys with one number in the upper half have bit 1, and behind it a number that is less by this
+highs : (g n d : ℕ) (keys : List (List ℕ)) → 2 ^ g ≤ n → All (λ key. number_at (suc g) d key ≡ n) keys
+    → All (λ key. bit_of d key ≡ 1) keys × All (λ key. number_at g (d + 1) key ≡ n - 2 ^ g) keys
+highs g n d keys high all = (
+  λ k other h. (high_half g d (get_or keys k other) (omega (arith, all k other h))).0,
+  λ k other h. omega (arith, all k other h, (high_half g d (get_or keys k other) (omega (arith, all k other h))).1),
+)
 
 -- those with bit 1 have lower numbers behind it
 highs_lower : (g n d : ℕ) (keys : List (List ℕ)) → 2 ^ g ≤ n → All (λ key. number_at (suc g) d key < n) keys → All (λ key. number_at g (d + 1) key < n - 2 ^ g) (with_bit 1 d keys)
@@ -86,19 +95,16 @@ highs_lower g n d keys high all k other h =
     let lower = All-filter (λ key. bit_of d key == 1) (λ key. number_at (suc g) d key < n) keys all k other h in
     let passes = filter_passes (λ key. bit_of d key == 1) keys k other h in
     let key = get_or (with_bit 1 d keys) k other in
-    let bit : bit_of d key ≡ 1 = eqb-true (bit_of d key) 1 passes in
-    let one = ap (λ (b : ℕ). b * 2 ^ g) bit in
-    let split = number_split g d key in
-    omega arith
+    let one = ap (λ (b : ℕ). b * 2 ^ g) (eqb-true (bit_of d key) 1 passes) in
+    omega (arith, number_split g d key)
 
 -- keys with bit 1 behind others change nothing on the left
 lefts_stay : (d : ℕ) (xs ys : List (List ℕ)) → All (λ key. bit_of d key ≡ 1) ys → with_bit 0 d (xs ++ ys) ≡ with_bit 0 d xs
-lefts_stay d xs ys high = filter-append (λ key. bit_of d key == 0) xs ys
-    ∙ ap (λ (ks : List (List ℕ)). with_bit 0 d xs ++ ks) (none_kept 0 1 d ys (λ e. absurd (omega arith)) high) ∙ append-nil (with_bit 0 d xs)
+lefts_stay d xs ys high = rw (filter-append, none_kept 0 1 d ys (λ e. absurd (omega arith)) high) (append-nil (with_bit 0 d xs))
 
 -- and come last on the right
 rights_grow : (d : ℕ) (xs ys : List (List ℕ)) → All (λ key. bit_of d key ≡ 1) ys → with_bit 1 d (xs ++ ys) ≡ with_bit 1 d xs ++ ys
-rights_grow d xs ys high = filter-append (λ key. bit_of d key == 1) xs ys ∙ ap (λ (ks : List (List ℕ)). with_bit 1 d xs ++ ks) (all_kept 1 d ys high)
+rights_grow d xs ys high = rw (filter-append, all_kept 1 d ys high)
 
 -- each key is on one side
 pub length_sides : (d : ℕ) (keys : List (List ℕ)) → length (with_bit 0 d keys) + length (with_bit 1 d keys) ≡ length keys
@@ -107,19 +113,13 @@ length_sides d (key ∷ keys) =
     let rest = length_sides d keys in
     let small = bit_small d key in
     elim (cases_eq (bit_of d key) 0) [
-      | inl zero_bit ↦
-          let left = ap length (kept 0 d key keys zero_bit) in
-          let right = ap length (left_out 1 d key keys (λ e. absurd (omega arith))) in
-          omega arith
-      | inr other ↦
-          let left = ap length (left_out 0 d key keys other) in
-          let right = ap length (kept 1 d key keys (omega arith)) in
-          omega arith
+      | inl zero_bit ↦ rw (kept 0 d key keys zero_bit, left_out 1 d key keys (λ e. absurd (omega arith))) (omega arith)
+      | inr other ↦ rw (left_out 0 d key keys other, kept 1 d key keys (omega arith)) (omega arith)
     ]
 
 -- a power is a product
 pub powers : (m g k : ℕ) → m ≡ g + k → 2 ^ m ≡ 2 ^ g * 2 ^ k
-powers m g k e = ap (λ (x : ℕ). 2 ^ x) e ∙ pow-add 2 g k
+powers m g k e = rw e (pow-add 2 g k)
 
 -- a group after lower ones: its code comes after theirs
 pub code_grows : (g n d e : ℕ) (xs ys : List (List ℕ)) → d + g ≡ e → All (λ key. number_at g d key < n) xs → All (λ key. number_at g d key ≡ n) ys → n < 2 ^ g
@@ -127,43 +127,25 @@ pub code_grows : (g n d e : ℕ) (xs ys : List (List ℕ)) → d + g ≡ e → A
 code_grows zero n d e xs ys deep lower alike small =
     let none : xs ≡ [] = none_below (λ key. number_at zero d key < n) xs (λ key below. omega arith) lower in
     let same : d ≡ e = omega arith in
-    ap (λ (ks : List (List ℕ)). trie_code (ks ++ ys) d) none ∙ ap (λ (x : ℕ). trie_code ys x) same
-    ∙ sym (ap (λ (ks : List (List ℕ)). trie_code ks d ++ trie_code ys e) none ∙ ap (λ (xs : List ℕ). xs ++ trie_code ys e) (short_code [] d (omega arith)))
+    cc (short_code [] d (omega arith))
 code_grows (suc g) n d e xs ys deep lower alike small = elim (cases_lt n (2 ^ g)) [
   | inl low ↦
-      let xs_low : All (λ key. bit_of d key ≡ 0) xs = λ k other h. let below = lower k other h in (low_half g d (get_or xs k other) (omega arith)).0 in
-      let ys_low : All (λ key. bit_of d key ≡ 0) ys = λ k other h. let is = alike k other h in (low_half g d (get_or ys k other) (omega arith)).0 in
-      let deeper : All (λ key. number_at g (d + 1) key < n) xs = λ k other h. let below = lower k other h in let same = (low_half g d (get_or xs k other) (omega arith)).1 in omega arith in
-      let same : All (λ key. number_at g (d + 1) key ≡ n) ys = λ k other h. let is = alike k other h in let same = (low_half g d (get_or ys k other) (omega arith)).1 in omega arith in
-      low_group g d (xs ++ ys) (All-append (λ key. bit_of d key ≡ 0) xs ys xs_low ys_low)
-      ∙ code_grows g n (d + 1) e xs ys (omega arith) deeper same low
-      ∙ ap (λ (code : List ℕ). code ++ trie_code ys e) (sym (low_group g d xs xs_low))
+      let one = lows g d (λ m. m < n) xs (λ m h. omega arith) lower in
+      let two = lows g d (λ m. m ≡ n) ys (λ m h. omega arith) alike in
+      let all = low_group g d (xs ++ ys) (All-append (λ key. bit_of d key ≡ 0) xs ys one.0 two.0) in
+      cc (low_group g d xs one.0, code_grows g n (d + 1) e xs ys (omega arith) one.1 two.1 low)
   | inr high ↦
       let double = pow-succ' 2 g in
-      let ys_high : All (λ key. bit_of d key ≡ 1) ys = λ k other h. let is = alike k other h in (high_half g d (get_or ys k other) (omega arith)).0 in
-      let same : All (λ key. number_at g (d + 1) key ≡ n - 2 ^ g) ys = λ k other h. let is = alike k other h in let same = (high_half g d (get_or ys k other) (omega arith)).1 in omega arith in
-      let lefts = grouped_code g (with_bit 0 d xs) (d + 1) in
-      ap (λ (ks : List (List ℕ)). grouped_code g ks (d + 1) ++ grouped_code g (with_bit 1 d (xs ++ ys)) (d + 1)) (lefts_stay d xs ys ys_high)
-      ∙ ap (λ (ks : List (List ℕ)). lefts ++ grouped_code g ks (d + 1)) (rights_grow d xs ys ys_high)
-      ∙ ap (λ (code : List ℕ). lefts ++ code) (code_grows g (n - 2 ^ g) (d + 1) e (with_bit 1 d xs) ys (omega arith) (highs_lower g n d xs high lower) same (omega arith))
-      ∙ sym (append_assoc lefts (grouped_code g (with_bit 1 d xs) (d + 1)) (trie_code ys e))
+      let two = highs g n d ys high alike in
+      let rest = code_grows g (n - 2 ^ g) (d + 1) e (with_bit 1 d xs) ys (omega arith) (highs_lower g n d xs high lower) two.1 (omega arith) in
+      cc (lefts_stay d xs ys two.0, rights_grow d xs ys two.0, append_assoc (grouped_code g (with_bit 0 d xs) (d + 1)) (grouped_code g (with_bit 1 d xs) (d + 1)) (trie_code ys e))
 ]
 
 -- marks of both halves
 halves : (m g d start place : ℕ) (keys : List (List ℕ)) → marks_of (suc m) (suc g) keys d start place
     ≡ marks_of m g (with_bit 0 d keys) (d + 1) start place
     ++ marks_of m g (with_bit 1 d keys) (d + 1) (start + length (grouped_code g (with_bit 0 d keys) (d + 1))) (place + length (with_bit 0 d keys))
-halves m g d start place keys =
-    let less : suc g - 1 ≡ g = omega arith in
-    let none : start + 0 ≡ start = omega arith in
-    let lefts = with_bit 0 d keys in
-    let rights = with_bit 1 d keys in
-    ap (λ (h : ℕ). marks_of m h lefts (d + 1) (start + 0) place ++ marks_of m h rights (d + 1) (start + 0 + length (grouped_code h lefts (d + 1))) (place + length lefts)) less
-    ∙ ap (λ (s : ℕ). marks_of m g lefts (d + 1) s place ++ marks_of m g rights (d + 1) (s + length (grouped_code g lefts (d + 1))) (place + length lefts)) none
-
--- a number of marks is divided as its groups are
-parts : (a b c n : ℕ) → a ≡ b + c → a * n ≡ b * n + c * n
-parts a b c n e = let same = ap (λ (x : ℕ). x * n) e in let apart : (b + c) * n ≡ b * n + c * n = grind arith in omega arith
+halves m g d start place keys = let less : suc g - 1 ≡ g = omega arith in let none : start + 0 ≡ start = omega arith in rw (less, none)
 
 -- the marks in front are those of the left half
 front_marks : (m g k j d start place : ℕ) (keys : List (List ℕ)) → m ≡ g + k → j ≤ 2 ^ g
@@ -174,7 +156,7 @@ front_marks m g k j d start place keys deep few =
     let size = length-marks_of m g (with_bit 0 d keys) (d + 1) start place in
     let all = powers m g k deep in
     let within : j * 2 ^ k ≤ 2 ^ g * 2 ^ k = mul-le-mul_right (2 ^ k) few in
-    ap (take (j * 2 ^ k)) (halves m g d start place keys) ∙ take-append-le (j * 2 ^ k) lefts rights (omega arith)
+    rw halves (take-append-le (j * 2 ^ k) lefts rights (omega arith))
 
 -- the marks behind the left half are those of the right one
 back_marks : (m g k j d start place : ℕ) (keys : List (List ℕ)) → m ≡ g + k
@@ -186,72 +168,53 @@ back_marks m g k j d start place keys deep =
     let rights = marks_of m g (with_bit 1 d keys) (d + 1) (start + length (grouped_code g (with_bit 0 d keys) (d + 1))) (place + length (with_bit 0 d keys)) in
     let size = length-marks_of m g (with_bit 0 d keys) (d + 1) start place in
     let all = powers m g k deep in
-    let apart = parts (2 ^ g + j) (2 ^ g) j (2 ^ k) refl in
+    let apart : (2 ^ g + j) * 2 ^ k ≡ 2 ^ g * 2 ^ k + j * 2 ^ k = grind arith in
     let count : (2 ^ g + j) * 2 ^ k ≡ length lefts + j * 2 ^ k = omega arith in
-    ap (take ((2 ^ g + j) * 2 ^ k)) (halves m g d start place keys) ∙ ap (λ (n : ℕ). take n (lefts ++ rights)) count ∙ take-append-add lefts rights (j * 2 ^ k)
+    rw (halves, count) (take-append-add lefts rights (j * 2 ^ k))
 
 -- and its marks come after theirs
 pub marks_grow : (g n m k d e start place : ℕ) (xs ys : List (List ℕ)) → d + g ≡ e → m ≡ g + k → All (λ key. number_at g d key < n) xs → All (λ key. number_at g d key ≡ n) ys → n < 2 ^ g
     → take ((n + 1) * 2 ^ k) (marks_of m g (xs ++ ys) d start place) ≡ take (n * 2 ^ k) (marks_of m g xs d start place) ++ marks_of k 0 ys e (start + length (grouped_code g xs d)) (place + length xs)
 marks_grow zero n m k d e start place xs ys deep more lower alike small =
     let none : xs ≡ [] = none_below (λ key. number_at zero d key < n) xs (λ key below. omega arith) lower in
-    let code : length (grouped_code 0 xs d) ≡ 0 = ap (λ (ks : List (List ℕ)). length (trie_code ks d)) none ∙ ap length (short_code [] d (omega arith)) in
+    let code : length (grouped_code 0 xs d) ≡ 0 = cc (short_code [] d (omega arith)) in
     let count = ap length none in
     let first : n ≡ 0 = omega arith in
     let same_depth : d ≡ e = omega arith in
     let same_levels : m ≡ k = omega arith in
     let same_start : start ≡ start + length (grouped_code 0 xs d) = omega arith in
     let same_place : place ≡ place + length xs = omega arith in
-    let whole : marks_of m 0 (xs ++ ys) d start place ≡ marks_of k 0 ys e (start + length (grouped_code 0 xs d)) (place + length xs) =
-    ap (λ (ks : List (List ℕ)). marks_of m 0 (ks ++ ys) d start place) none ∙ ap (λ (x : ℕ). marks_of x 0 ys d start place) same_levels ∙ ap (λ (x : ℕ). marks_of k 0 ys x start place) same_depth
-    ∙ ap (λ (x : ℕ). marks_of k 0 ys e x place) same_start ∙ ap (λ (x : ℕ). marks_of k 0 ys e (start + length (grouped_code 0 xs d)) x) same_place in
-    let size = length-marks_of m 0 (xs ++ ys) d start place in
-    let power = ap (λ (x : ℕ). 2 ^ x) same_levels in
-    let one : (n + 1) * 2 ^ k ≡ 1 * 2 ^ k = ap (λ (x : ℕ). (x + 1) * 2 ^ k) first in
-    let times = ap (λ (x : ℕ). x * 2 ^ k) first in
-    let zero_marks : n * 2 ^ k ≡ 0 = omega arith in
-    take_all ((n + 1) * 2 ^ k) (marks_of m 0 (xs ++ ys) d start place) (omega arith) ∙ whole
-    ∙ ap (λ (j : ℕ). take j (marks_of m 0 xs d start place) ++ marks_of k 0 ys e (start + length (grouped_code 0 xs d)) (place + length xs)) (sym zero_marks)
+    let no_marks : n * 2 ^ k ≡ 0 = rw first (omega arith) in
+    let all : length (marks_of m 0 (xs ++ ys) d start place) ≤ (n + 1) * 2 ^ k = rw (first, same_levels, length-marks_of) (omega arith) in
+    cc (take_all ((n + 1) * 2 ^ k) (marks_of m 0 (xs ++ ys) d start place) all)
 marks_grow (suc g) n zero k d e start place xs ys deep more lower alike small = absurd (omega arith)
 marks_grow (suc g) n (suc m) k d e start place xs ys deep more lower alike small = elim (cases_lt n (2 ^ g)) [
   | inl low ↦
-      let xs_low : All (λ key. bit_of d key ≡ 0) xs = λ j other h. let below = lower j other h in (low_half g d (get_or xs j other) (omega arith)).0 in
-      let ys_low : All (λ key. bit_of d key ≡ 0) ys = λ j other h. let is = alike j other h in (low_half g d (get_or ys j other) (omega arith)).0 in
-      let deeper : All (λ key. number_at g (d + 1) key < n) xs = λ j other h. let below = lower j other h in let same = (low_half g d (get_or xs j other) (omega arith)).1 in omega arith in
-      let same : All (λ key. number_at g (d + 1) key ≡ n) ys = λ j other h. let is = alike j other h in let same = (low_half g d (get_or ys j other) (omega arith)).1 in omega arith in
-      let both : with_bit 0 d (xs ++ ys) ≡ xs ++ ys = all_kept 0 d (xs ++ ys) (All-append (λ key. bit_of d key ≡ 0) xs ys xs_low ys_low) in
-      front_marks m g k (n + 1) d start place (xs ++ ys) (omega arith) (omega arith)
-      ∙ ap (λ (ks : List (List ℕ)). take ((n + 1) * 2 ^ k) (marks_of m g ks (d + 1) start place)) both
-      ∙ marks_grow g n m k (d + 1) e start place xs ys (omega arith) (omega arith) deeper same low
-      ∙ sym (ap (λ (ms : List Mark). ms ++ marks_of k 0 ys e (start + length (grouped_code (suc g) xs d)) (place + length xs)) (front_marks m g k n d start place xs (omega arith) (omega arith)
-      ∙ ap (λ (ks : List (List ℕ)). take (n * 2 ^ k) (marks_of m g ks (d + 1) start place)) (all_kept 0 d xs xs_low))
-      ∙ ap (λ (code : List ℕ). take (n * 2 ^ k) (marks_of m g xs (d + 1) start place) ++ marks_of k 0 ys e (start + length code) (place + length xs)) (low_group g d xs xs_low))
+      let one = lows g d (λ m. m < n) xs (λ m h. omega arith) lower in
+      let two = lows g d (λ m. m ≡ n) ys (λ m h. omega arith) alike in
+      let both = all_kept 0 d (xs ++ ys) (All-append (λ key. bit_of d key ≡ 0) xs ys one.0 two.0) in
+      let rest = marks_grow g n m k (d + 1) e start place xs ys (omega arith) (omega arith) one.1 two.1 low in
+      let after = front_marks m g k (n + 1) d start place (xs ++ ys) (omega arith) (omega arith) in
+      cc (front_marks m g k n d start place xs (omega arith) (omega arith), all_kept 0 d xs one.0, low_group g d xs one.0)
   | inr high ↦
       let double = pow-succ' 2 g in
       let j = n - 2 ^ g in
-      let ys_high : All (λ key. bit_of d key ≡ 1) ys = λ i other h. let is = alike i other h in (high_half g d (get_or ys i other) (omega arith)).0 in
-      let same : All (λ key. number_at g (d + 1) key ≡ j) ys = λ i other h. let is = alike i other h in let same = (high_half g d (get_or ys i other) (omega arith)).1 in omega arith in
+      let two = highs g n d ys high alike in
       let lefts = with_bit 0 d xs in
       let rights = with_bit 1 d xs in
       let behind = start + length (grouped_code g lefts (d + 1)) in
       let past = place + length lefts in
-      let front = marks_of m g lefts (d + 1) start place in
-      let old = take (j * 2 ^ k) (marks_of m g rights (d + 1) behind past) in
-      let code = length-append (grouped_code g lefts (d + 1)) (grouped_code g rights (d + 1)) in
-      let sides = length_sides d xs in
-      let start_is : behind + length (grouped_code g rights (d + 1)) ≡ start + length (grouped_code (suc g) xs d) = omega arith in
-      let place_is : past + length rights ≡ place + length xs = omega arith in
+      let start_is : behind + length (grouped_code g rights (d + 1)) ≡ start + length (grouped_code (suc g) xs d) = simp length-append (omega arith) in
+      let place_is : past + length rights ≡ place + length xs = omega (arith, length_sides d xs) in
       let next : n + 1 ≡ 2 ^ g + (j + 1) = omega arith in
       let here : n ≡ 2 ^ g + j = omega arith in
-      ap (λ (x : ℕ). take (x * 2 ^ k) (marks_of (suc m) (suc g) (xs ++ ys) d start place)) next
-      ∙ back_marks m g k (j + 1) d start place (xs ++ ys) (omega arith)
-      ∙ ap (λ (ks : List (List ℕ)). marks_of m g ks (d + 1) start place
-      ++ take ((j + 1) * 2 ^ k) (marks_of m g (with_bit 1 d (xs ++ ys)) (d + 1) (start + length (grouped_code g ks (d + 1))) (place + length ks))) (lefts_stay d xs ys ys_high)
-      ∙ ap (λ (ks : List (List ℕ)). front ++ take ((j + 1) * 2 ^ k) (marks_of m g ks (d + 1) behind past)) (rights_grow d xs ys ys_high)
-      ∙ ap (λ (ms : List Mark). front ++ ms) (marks_grow g j m k (d + 1) e behind past rights ys (omega arith) (omega arith) (highs_lower g n d xs high lower) same (omega arith))
-      ∙ sym (append_assoc front old _)
-      ∙ ap (λ (s : ℕ). front ++ old ++ marks_of k 0 ys e s (past + length rights)) start_is
-      ∙ ap (λ (p : ℕ). front ++ old ++ marks_of k 0 ys e (start + length (grouped_code (suc g) xs d)) p) place_is
-      ∙ sym (ap (λ (ms : List Mark). ms ++ marks_of k 0 ys e (start + length (grouped_code (suc g) xs d)) (place + length xs))
-      (ap (λ (x : ℕ). take (x * 2 ^ k) (marks_of (suc m) (suc g) xs d start place)) here ∙ back_marks m g k j d start place xs (omega arith)))
+      let rest = marks_grow g j m k (d + 1) e behind past rights ys (omega arith) (omega arith) (highs_lower g n d xs high lower) two.1 (omega arith) in
+      let after = back_marks m g k (j + 1) d start place (xs ++ ys) (omega arith) in
+      let before = back_marks m g k j d start place xs (omega arith) in
+      cc (
+        lefts_stay d xs ys two.0,
+        rights_grow d xs ys two.0,
+        append_assoc (marks_of m g lefts (d + 1) start place) (take (j * 2 ^ k) (marks_of m g rights (d + 1) behind past))
+            (marks_of k 0 ys e (behind + length (grouped_code g rights (d + 1))) (past + length rights)),
+      )
 ]

@@ -1,6 +1,6 @@
 -- Lemmas on lists to which more is appended.
-use Rattle.std.proofs.Common.{◌≡◌, List, [], ◌++◌, sym, ap, ◌∙◌, append-nil, append_assoc}
-use Rattle.silt_trie.specs.Coded.{Grows}
+use Rattle.silt_trie.proofs.Common.{◌≡◌, List, [], ◌++◌, sym, Grows}
+use Rattle.std.proofs.Common.{append-nil, append_assoc}
 
 -- nothing was appended
 pub grows_none : {X : Type 0} (old : List X) → Grows old old
@@ -8,7 +8,7 @@ grows_none old = ([], sym (append-nil old))
 
 -- more was appended, and then this
 pub grows_more : {X : Type 0} (old mid more new : List X) → Grows old mid → new ≡ mid ++ more → Grows old new
-grows_more old mid more new grows is = (grows.0 ++ more, is ∙ ap (λ xs. xs ++ more) grows.1 ∙ append_assoc old grows.0 more)
+grows_more old mid more new grows is = (grows.0 ++ more, rw (is, grows.1) (append_assoc old grows.0 more))
 
 -- more was appended twice
 pub grows_twice : {X : Type 0} (old mid new : List X) → Grows old mid → Grows mid new → Grows old new

@@ -1,3 +1,4 @@
+pub mod Common
 pub mod KeyBits
 pub mod Order
 pub mod Sides

@@ -1,27 +1,25 @@
 -- Lemmas on the order of keys, by bytes and by bits.
-use Rattle.std.proofs.Common.{◌≡◌, ℕ, zero, suc, ◌*◌, ◌/◌, ◌%◌, ◌^◌, ◌<◌, ◌≤◌, Bool, true, cond, eqb, ltb, List, [], ◌∷◌, ◌++◌, length, get_or, replicate, refl}
-use Rattle.std.proofs.Common.{sym, ap, ◌∙◌, inl, inr, arith, Ordering, Less, Equal, Greater}
-use Rattle.std.proofs.lemmas.List.{ext_get_or, get_or_append_left}
-use Rattle.std.proofs.lemmas.Bool.{cases_lt, cases_order, lt-ltb, le-ltb, ltb-true, ne_eqb}
+use Rattle.silt_trie.proofs.Common.{◌≡◌, ℕ, zero, suc, ◌*◌, ◌/◌, ◌%◌, ◌^◌, ◌<◌, ◌≤◌, true, List, [], ◌∷◌, ◌++◌, length, get_or, replicate, refl, sym, ap, ◌∙◌, inl, inr, arith, Ordering, Less}
+use Rattle.silt_trie.proofs.Common.{get_or_append_left, cases_lt, cases_order, ne_eqb, mod_below, mul-le-mul_right, pow-succ', slice_cmp, low_bits, bits_of, length-low_bits, bit_of, AgreeIn}
+use Rattle.silt_trie.proofs.Common.{Follows}
+use Rattle.std.proofs.Common.{ltb, Equal, Greater}
+use Rattle.std.proofs.lemmas.List.{ext_get_or}
+use Rattle.std.proofs.lemmas.Bool.{lt-ltb, le-ltb, ltb-true}
 use Rattle.std.proofs.lemmas.Cmp.{tied_itself, nat_cmp_total, nat_list_cmp_total}
-use Rattle.std.proofs.lemmas.Nat.{div_below, mod_below, pow_pos, div-add-mod'}
-use Rattle.std.proofs.Math.Nat.{mod-eq_of_lt, mul-le-mul_right, div-mul-le_self, lt-div-mul-add, suc-mul, pow-succ'}
+use Rattle.std.proofs.lemmas.Nat.{div_below, pow_pos, div-add-mod'}
+use Rattle.std.proofs.Math.Nat.{mod-eq_of_lt, div-mul-le_self, lt-div-mul-add, suc-mul}
 use Rattle.std.specs.Ordering.{nat_cmp, ordering_then}
-use Rattle.std.specs.Cmp.Lexicographic.{slice_cmp}
-use Rattle.silt_gamma.specs.Bits.{low_bits, bits_of}
-use Rattle.silt_gamma.proofs.BitLists.{length-bits_of, length-low_bits, low_bits_mod}
-use Rattle.silt_trie.specs.Code.{bit_of, AgreeIn, Follows, OrderLaw, GroupLaw}
+use Rattle.silt_gamma.proofs.BitLists.{length-bits_of, low_bits_mod}
+use Rattle.silt_trie.specs.Code.{OrderLaw, GroupLaw}
 use Rattle.silt_trie.proofs.KeyBits.{bit_small}
 
 -- what `nat_cmp` means for two numbers: the first is lower
 lower : (x y : ℕ) → x < y → nat_cmp x y ≡ Less
-lower x y h = ap (λ (b : Bool). cond b Less (cond (eqb x y) Equal Greater)) (lt-ltb x y h)
+lower x y h = cc (lt-ltb x y h)
 
 -- the first is higher
 higher : (x y : ℕ) → y < x → nat_cmp x y ≡ Greater
-higher x y h =
-    let no : (x ≡ y → ⊥) = omega arith in
-    ap (λ (b : Bool). cond b Less (cond (eqb x y) Equal Greater)) (le-ltb x y (omega arith)) ∙ ap (λ (b : Bool). cond b Equal Greater) (ne_eqb x y no)
+higher x y h = cc (le-ltb x y (omega arith), ne_eqb x y (omega arith))
 
 -- both are equal
 tied : (x y : ℕ) → x ≡ y → nat_cmp x y ≡ Equal
@@ -29,21 +27,14 @@ tied x y e = ap (λ (z : ℕ). nat_cmp x z) (sym e) ∙ tied_itself nat_cmp_tota
 
 -- the order of two lists is that of their first numbers, if these differ
 first_not_above : (x y : ℕ) (o : Ordering) → ordering_then (nat_cmp x y) o ≡ Less → x ≤ y
-first_not_above x y o less = elim (cases_lt y x) [
-  | inl above ↦ let same : ordering_then (nat_cmp x y) o ≡ Greater = ap (λ (c : Ordering). ordering_then c o) (higher x y above) in absurd (cc)
-  | inr upto ↦ upto
-]
+first_not_above x y o less = elim (cases_lt y x) [ inl above ↦ absurd (cc (higher x y above)) | inr upto ↦ upto ]
 
 -- of two lists that agree below d, the lower has no greater number at d
 pub below_at : (d : ℕ) (a b : List ℕ) → slice_cmp nat_cmp a b ≡ Less → ((k : ℕ) → k < d → get_or a k 0 ≡ get_or b k 0) → get_or a d 0 ≤ get_or b d 0
 below_at d [] b less same = omega arith
 below_at d (x ∷ xs) [] less same = absurd (cc)
 below_at zero (x ∷ xs) (y ∷ ys) less same = first_not_above x y (slice_cmp nat_cmp xs ys) less
-below_at (suc d) (x ∷ xs) (y ∷ ys) less same =
-    let equal : x ≡ y = same 0 (omega arith) in
-    let equals : nat_cmp x y ≡ Equal = tied x y equal in
-    let rest : slice_cmp nat_cmp xs ys ≡ Less = sym (ap (λ (c : Ordering). ordering_then c (slice_cmp nat_cmp xs ys)) equals) ∙ less in
-    below_at d xs ys rest (λ k h. same (suc k) (omega arith))
+below_at (suc d) (x ∷ xs) (y ∷ ys) less same = let equals = tied x y (same 0 (omega arith)) in below_at d xs ys (cc) (λ k h. same (suc k) (omega arith))
 
 -- numbers compare by their quotients, and then by their remainders
 by_parts : (p x y : ℕ) (o : Ordering) → 0 < p → ordering_then (nat_cmp (x / p) (y / p)) (ordering_then (nat_cmp (x % p) (y % p)) o) ≡ ordering_then (nat_cmp x y) o
@@ -52,43 +43,34 @@ by_parts p x y o some = elim (cases_order (x / p) (y / p)) [
       let wx = div-add-mod' x p in
       let wy = div-add-mod' y p in
       let product = ap (λ (q : ℕ). q * p) same in
-      ap (λ (c : Ordering). ordering_then c (ordering_then (nat_cmp (x % p) (y % p)) o)) (tied (x / p) (y / p) same) ∙ ap (λ (c : Ordering). ordering_then c o) (elim (cases_order (x % p) (y % p)) [
-        | inl e ↦ tied (x % p) (y % p) e ∙ sym (tied x y (omega arith))
-        | inr (inl below) ↦ lower (x % p) (y % p) below ∙ sym (lower x y (omega arith))
-        | inr (inr above) ↦ higher (x % p) (y % p) above ∙ sym (higher x y (omega arith))
-      ])
+      let first = tied (x / p) (y / p) same in
+      elim (cases_order (x % p) (y % p)) [
+        | inl e ↦ cc (tied (x % p) (y % p) e, tied x y (omega arith))
+        | inr (inl below) ↦ cc (lower (x % p) (y % p) below, lower x y (omega arith))
+        | inr (inr above) ↦ cc (higher (x % p) (y % p) above, higher x y (omega arith))
+      ]
   | inr (inl below) ↦
       let next : suc (x / p) * p ≤ y / p * p = mul-le-mul_right p (omega arith) in
       let upto = div-mul-le_self y p in
       let from = lt-div-mul-add {a = x} some in
-      let more = suc-mul (x / p) p in
-      ap (λ (c : Ordering). ordering_then c (ordering_then (nat_cmp (x % p) (y % p)) o)) (lower (x / p) (y / p) below) ∙ ap (λ (c : Ordering). ordering_then c o) (sym (lower x y (omega arith)))
+      cc (lower (x / p) (y / p) below, lower x y (omega (arith, suc-mul (x / p) p)))
   | inr (inr above) ↦
       let next : suc (y / p) * p ≤ x / p * p = mul-le-mul_right p (omega arith) in
       let upto = div-mul-le_self x p in
       let from = lt-div-mul-add {a = y} some in
-      let more = suc-mul (y / p) p in
-      ap (λ (c : Ordering). ordering_then c (ordering_then (nat_cmp (x % p) (y % p)) o)) (higher (x / p) (y / p) above) ∙ ap (λ (c : Ordering). ordering_then c o) (sym (higher x y (omega arith)))
+      cc (higher (x / p) (y / p) above, higher x y (omega (arith, suc-mul (y / p) p)))
 ]
 
 -- the same of the bits of two numbers, whatever follows
 word_order : (w x y : ℕ) (xs ys : List ℕ) → x < 2 ^ w → y < 2 ^ w → slice_cmp nat_cmp (low_bits w x ++ xs) (low_bits w y ++ ys) ≡ ordering_then (nat_cmp x y) (slice_cmp nat_cmp xs ys)
-word_order zero x y xs ys p q = ap (λ (c : Ordering). ordering_then c (slice_cmp nat_cmp xs ys)) (sym (tied x y (omega arith)))
+word_order zero x y xs ys p q = cc (tied x y (omega arith))
 word_order (suc w) x y xs ys p q =
-    let power = 2 ^ w in
     let double : 2 ^ suc w ≡ 2 * 2 ^ w = pow-succ' 2 w in
     let some : 0 < 2 ^ w = pow_pos w in
     let hx : x / 2 ^ w % 2 ≡ x / 2 ^ w = mod-eq_of_lt (div_below x (2 ^ w) 2 some (omega arith)) in
     let hy : y / 2 ^ w % 2 ≡ y / 2 ^ w = mod-eq_of_lt (div_below y (2 ^ w) 2 some (omega arith)) in
-    let rest : slice_cmp nat_cmp (low_bits w x ++ xs) (low_bits w y ++ ys) ≡ ordering_then (nat_cmp (x % 2 ^ w) (y % 2 ^ w)) (slice_cmp nat_cmp xs ys) =
-    ap (λ (ls : List ℕ). slice_cmp nat_cmp (ls ++ xs) (low_bits w y ++ ys)) (sym (low_bits_mod w x))
-    ∙ ap (λ (ls : List ℕ). slice_cmp nat_cmp (low_bits w (x % 2 ^ w) ++ xs) (ls ++ ys)) (sym (low_bits_mod w y))
-    ∙ word_order w (x % 2 ^ w) (y % 2 ^ w) xs ys (mod_below x (2 ^ w) some) (mod_below y (2 ^ w) some)
-    in
-    ap (λ (c : Ordering). ordering_then (nat_cmp (x / 2 ^ w % 2) (y / 2 ^ w % 2)) c) rest
-    ∙ ap (λ (h : ℕ). ordering_then (nat_cmp h (y / 2 ^ w % 2)) (ordering_then (nat_cmp (x % 2 ^ w) (y % 2 ^ w)) (slice_cmp nat_cmp xs ys))) hx
-    ∙ ap (λ (h : ℕ). ordering_then (nat_cmp (x / 2 ^ w) h) (ordering_then (nat_cmp (x % 2 ^ w) (y % 2 ^ w)) (slice_cmp nat_cmp xs ys))) hy
-    ∙ by_parts (2 ^ w) x y (slice_cmp nat_cmp xs ys) some
+    let rest = word_order w (x % 2 ^ w) (y % 2 ^ w) xs ys (mod_below x (2 ^ w) some) (mod_below y (2 ^ w) some) in
+    cc (low_bits_mod w x, low_bits_mod w y, by_parts (2 ^ w) x y (slice_cmp nat_cmp xs ys) some)
 
 -- keys compare by their bits as by their bytes
 pub order_law : OrderLaw
@@ -132,13 +114,9 @@ follows_from d at a b size_a size_b within upto same differ low =
 -- keys that agree in all bits do not follow one another
 pub not_tied : (d : ℕ) (a b : List ℕ) → AgreeIn 160 a b → Follows d a b → ⊥
 not_tied d a b alike next =
-    let size_a = length-bits_of a in
-    let size_b = length-bits_of b in
-    let sizes = next.sized in
-    let same : bits_of a ≡ bits_of b = ext_get_or 0 (bits_of a) (bits_of b) (omega arith) (λ k h. alike k (omega arith)) in
-    let tied : slice_cmp nat_cmp (bits_of a) (bits_of b) ≡ Equal = ap (slice_cmp nat_cmp (bits_of a)) (sym same) ∙ tied_itself nat_list_cmp_total (bits_of a) in
+    let same : bits_of a ≡ bits_of b = ext_get_or 0 (bits_of a) (bits_of b) (omega (arith, length-bits_of a, length-bits_of b)) (λ k h. alike k (omega (arith, length-bits_of a))) in
     let below : slice_cmp nat_cmp (bits_of a) (bits_of b) ≡ Less = next.below in
-    absurd (cc)
+    absurd (cc (tied_itself nat_list_cmp_total (bits_of a)))
 
 -- keys that agree in fewer than d bits do not follow one another
 pub not_alike : (d at : ℕ) (a b : List ℕ) → at < d → (bit_of at a ≡ bit_of at b → ⊥) → Follows d a b → ⊥

@@ -1,10 +1,8 @@
 -- Lemmas on codes that are still to be skipped.
-use Rattle.std.proofs.Common.{◌≡◌, ℕ, zero, suc, ◌+◌, ◌-◌, ◌<◌, ◌≤◌, min, leb, List, ◌++◌, length, get_or, refl, sym, ap, ◌∙◌, inl, inr, subst, arith, get_or-set_other, get_or-set_same, length-set}
-use Rattle.std.proofs.Math.ListN.{set}
-use Rattle.std.proofs.lemmas.Bool.{cases_lt, le-leb, lt-leb}
+use Rattle.silt_trie.proofs.Common.{◌≡◌, ℕ, zero, suc, ◌+◌, ◌-◌, ◌<◌, ◌≤◌, min, List, ◌++◌, length, get_or, refl, sym, ap, ◌∙◌, inl, inr, arith, length-set, set, cases_lt, le-leb, lt-leb}
+use Rattle.silt_trie.proofs.Common.{BeginsWithCode, trie_code, with_bit, IsCodable}
+use Rattle.std.proofs.Common.{leb, get_or-set_other, get_or-set_same}
 use Rattle.std.specs.Int.{from_bool}
-use Rattle.silt_gamma.specs.Gamma.{BeginsWithCode}
-use Rattle.silt_trie.specs.Code.{trie_code, with_bit, IsCodable}
 use Rattle.silt_trie.proofs.Codes.{short_code, deep_few, node, left_within, length_rights}
 use Rattle.silt_trie.proofs.Sides.{lefts_codable, rights_codable}
 
@@ -41,25 +39,16 @@ push_one d t e n top counts bits more rest keys codable count deep within is lon
     let below : (j : ℕ) → j < t → get_or counts j 0 ≡ get_or (set counts t n) j 0 = λ j h. sym (get_or-set_other counts t j n 0 (λ same. absurd (omega arith))) in
     let kept = same_below d t counts (set counts t n) more rest below pending in
     elim (cases_lt n 2) [
-      | inl few ↦
-          let none : bits ≡ more = is ∙ ap (λ (xs : List ℕ). xs ++ more) (short_code keys e (omega arith)) in
-          let family : ℕ → Type 0 = λ m. Pending d (set counts t n) m bits rest in
-          let here : family t = rw none kept in
-          subst family (sym (short few)) here
-      | inr many ↦
-          let family : ℕ → Type 0 = λ m. Pending d (set counts t n) m bits rest in
-          let here : family (suc t) = (keys, e, more, record { codable = codable; many = omega arith; count = sym count ∙ sym (get_or-set_same counts t n 0 within); deep = deep }, is, kept) in
-          subst family (sym (long many)) here
+      | inl few ↦ let none : bits ≡ more = cc (short_code keys e (omega arith)) in rw (short few, none) kept
+      | inr many ↦ rw (long many)
+          (keys, e, more, record { codable = codable; many = omega arith; count = sym count ∙ sym (get_or-set_same counts t n 0 within); deep = deep }, is, kept)
     ]
 
 -- there are no more than there are depths
 pub few_pending : (d t : ℕ) (counts bits rest : List ℕ) → Pending d counts t bits rest → t ≤ 160
 few_pending d zero counts bits rest pending = omega arith
 few_pending d (suc t) counts bits rest pending =
-    let waits = pending.3 in
-    let many = waits.many in
-    let deep = waits.deep in
-    elim (cases_lt pending.1 160) [ inl within ↦ omega arith | inr past ↦ let few = deep_few pending.1 pending.0 waits.codable past in absurd (omega arith) ]
+    elim (cases_lt pending.1 160) [ inl within ↦ omega arith | inr past ↦ let few = deep_few pending.1 pending.0 pending.3.codable past in absurd (omega arith) ]
 
 -- the number that a test counts
 pub counted : (n r : ℕ) → r ≡ from_bool (leb 2 n) → (2 ≤ n → r ≡ 1) × (n < 2 → r ≡ 0)
@@ -86,25 +75,17 @@ turn d t next left right r s counts bits after rest pending size within reads le
     let more = pending.2 in
     let waits = pending.3 in
     let codable = waits.codable in
-    let deep = waits.deep in
-    let count = waits.count in
-    let begins = node keys e bits more codable waits.many (inside keys e codable waits.many) pending.4 in
-    let read = reads (length (with_bit 0 e keys) + 1) _ begins in
-    let number = read.0 in
+    let read = reads (length (with_bit 0 e keys) + 1) _ (node keys e bits more codable waits.many (inside keys e codable waits.many) pending.4) in
     let upto = left_within e keys codable in
     let others = length_rights e keys codable in
     let left_count : left ≡ length (with_bit 0 e keys) = omega arith in
     let right_count : right ≡ length (with_bit 1 e keys) = omega arith in
-    let r_long = (counted right r r_is).0 in
-    let r_short = (counted right r r_is).1 in
-    let s_long = (counted left s s_is).0 in
-    let s_short = (counted left s s_is).1 in
-    let r_small : r ≤ 1 = elim (cases_lt right 2) [ inl few ↦ let one = r_short few in omega arith | inr many ↦ let one = r_long many in omega arith ] in
+    let on_right = counted right r r_is in
+    let on_left = counted left s s_is in
+    let r_small : r ≤ 1 = elim (cases_lt right 2) [ inl few ↦ omega (arith, on_right.1 few) | inr many ↦ omega (arith, on_right.0 many) ] in
     let one = push_one d t (e + 1) right (t + r) counts (trie_code (with_bit 1 e keys) (e + 1) ++ more) more rest (with_bit 1 e keys)
-    (rights_codable e keys codable) right_count (omega arith) (omega arith) refl
-    (λ many. let h = r_long many in omega arith) (λ few. let h = r_short few in omega arith) pending.5
+    (rights_codable e keys codable) right_count (omega arith) (omega arith) refl (λ many. omega (arith, on_right.0 many)) (λ few. omega (arith, on_right.1 few)) pending.5
     in
     let sized = length-set counts t right in
     push_one d (t + r) (e + 1) left (t + r + s) (set counts t right) after (trie_code (with_bit 1 e keys) (e + 1) ++ more) rest
-    (with_bit 0 e keys) (lefts_codable e keys codable) left_count (omega arith) (omega arith) read.1
-    (λ many. let h = s_long many in omega arith) (λ few. let h = s_short few in omega arith) one
+    (with_bit 0 e keys) (lefts_codable e keys codable) left_count (omega arith) (omega arith) read.1 (λ many. omega (arith, on_left.0 many)) (λ few. omega (arith, on_left.1 few)) one

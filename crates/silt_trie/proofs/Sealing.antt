@@ -1,19 +1,15 @@
 -- Lemmas on a builder that makes its trie.
-use Rattle.std.proofs.Common.{◌≡◌, ℕ, List, length, take, IfSome, is_some, true, false, Option, None, Some, refl, sym, ap, ◌∙◌, subst}
+use Rattle.silt_trie.proofs.Common.{Mark, ◌≡◌, ℕ, List, length, take, true, Option, None, Some, refl, sym, subst, ap, ◌∙◌, take_at, Building, IsBuildingOf, trie_in, Grows, IsMadeOf, MarkedCode, Cut}
+use Rattle.std.proofs.Common.{IfSome, is_some, false}
 use Rattle.std.specs.Option.{option_map}
-use Rattle.std.proofs.lemmas.List.{take_at}
-use Rattle.silt_trie.specs.Building.{Building, BuilderState, IsBuildingOf, IsTrieOf, opened, trie_in}
-use Rattle.silt_trie.specs.Coded.{Grows}
-use Rattle.silt_trie.specs.Marks.{IsMadeOf, MarkedCode}
-use Rattle.silt_trie.specs.declared.marks.Mark.{Mark}
-use Rattle.silt_trie.specs.declared.trie_builder.Cut.{Cut}
+use Rattle.silt_trie.specs.Building.{BuilderState, IsTrieOf, opened}
 
 -- what was appended is cut off
 pub opened_again : (old new : Building) (bits marks : ℕ) → new ≡ record old { code = new.code; marks = new.marks } → Grows old.code new.code × Grows old.marks new.marks
     → bits ≡ length old.code → marks ≡ length old.marks → opened (Some (record { bits = bits; marks = marks })) new ≡ old
 opened_again old new bits marks rest grows bits_are marks_are =
-    let code : take bits new.code ≡ old.code = ap (take bits) grows.0.1 ∙ take_at old.code grows.0.0 bits (sym bits_are) in
-    let kept : take marks new.marks ≡ old.marks = ap (take marks) grows.1.1 ∙ take_at old.marks grows.1.0 marks (sym marks_are) in
+    let code : take bits new.code ≡ old.code = cc (take_at old.code grows.0.0 bits (sym bits_are)) in
+    let kept : take marks new.marks ≡ old.marks = cc (take_at old.marks grows.1.0 marks (sym marks_are)) in
     ap (λ (b : Building). record b { code = take bits new.code; marks = take marks new.marks }) rest
     ∙ ap (λ (c : List ℕ). record old { code = c; marks = take marks new.marks }) code
     ∙ ap (λ (ms : List Mark). record old { code = old.code; marks = ms }) kept
@@ -35,11 +31,7 @@ pub seals : (cut : Option Cut) (old new : Building) (bits marks : ℕ) → is_so
     × IsTrieOf (opened cut old) made
 seals None old new bits marks none rest grows made bits_are marks_are =
     let same = opened_again old new bits marks rest grows bits_are marks_are in
-    let trie : IsTrieOf old (trie_in new) = subst (λ (b : Building). IsTrieOf b (trie_in new)) same (trie_of_opened old new bits marks rest grows made bits_are marks_are) in
-    let is : ◌≡◌ {A = BuilderState} (record { building = opened (Some (record { bits = bits; marks = marks })) new; sealed = Some (trie_in new) })
-    (record { building = old; sealed = Some (trie_in new) }) =
-    ap (λ (b : Building). let made : BuilderState = record { building = b; sealed = Some (trie_in new) } in made) same in
-    (trie_in new, is, trie)
+    (trie_in new, cc, rw same at (trie_of_opened old new bits marks rest grows made bits_are marks_are))
 seals (Some k) old new bits marks none rest grows made bits_are marks_are = absurd (cc)
 
 -- the builder has its trie already

@@ -1,8 +1,8 @@
 -- Lemmas on the two sides of keys at a bit.
-use Rattle.std.proofs.Common.{◌≡◌, ℕ, zero, suc, ◌+◌, ◌<◌, ◌≤◌, Bool, cond, List, [], ◌∷◌, length, take, drop, get_or, refl, sym, ap, ◌∙◌, inl, inr, add-one}
-use Rattle.std.proofs.Common.{arith, length-drop, get_or-take, get_or-drop, length-take-le}
-use Rattle.std.proofs.lemmas.Bool.{cases_eq, cases_lt, cases_order, eq-eqb, ne_eqb}
-use Rattle.silt_trie.specs.Code.{bit_of, with_bit, AgreeIn, Follows, IsCodable}
+use Rattle.silt_trie.proofs.Common.{◌≡◌, ℕ, zero, suc, ◌+◌, ◌<◌, ◌≤◌, List, [], ◌∷◌, length, take, drop, get_or, refl, sym, ap, ◌∙◌, inl, inr, arith, length-drop, cases_eq, cases_lt, cases_order}
+use Rattle.silt_trie.proofs.Common.{ne_eqb, bit_of, with_bit, AgreeIn, Follows, IsCodable}
+use Rattle.std.proofs.Common.{Bool, cond, add-one, get_or-take, get_or-drop, length-take-le}
+use Rattle.std.proofs.lemmas.Bool.{eq-eqb}
 use Rattle.silt_trie.proofs.KeyBits.{bit_small}
 use Rattle.silt_trie.proofs.Order.{below_at}
 
@@ -33,7 +33,6 @@ left_out bit d key keys e = ap (λ (b : Bool). cond b (key ∷ with_bit bit d ke
 -- one more key in front, with bit 0
 one_left : (d : ℕ) (key : List ℕ) (keys : List (List ℕ)) (m : ℕ) → bit_of d key ≡ 0 → Divides d keys m → Divides d (key ∷ keys) (suc m)
 one_left d key keys m here rest =
-    let within = rest.within in
     record {
       within = omega arith;
       zeros = zeros;
@@ -101,7 +100,6 @@ pub count_is : (d m : ℕ) (keys : List (List ℕ)) → m ≤ length keys → ((
 count_is d m keys within zeros ones codable =
     let n = length (with_bit 0 d keys) in
     let split = divides d keys codable in
-    let inside = split.within in
     elim (cases_order m n) [
       | inl same ↦ same
       | inr (inl below) ↦ absurd (ones m (omega arith) (omega arith) (split.zeros m below))
@@ -124,10 +122,8 @@ pub lefts_codable : (d : ℕ) (keys : List (List ℕ)) → IsCodable keys d → 
 lefts_codable d keys codable =
     let split = divides d keys codable in
     let m = length (with_bit 0 d keys) in
-    let within = split.within in
-    let count = length-take-le m keys within in
+    let count = length-take-le m keys split.within in
     let key : (i : ℕ) → i < m → get_or (take m keys) i [] ≡ get_or keys i [] = λ i h. get_or-take m keys i [] h in
-    let limit = codable.few in
     let part : IsCodable (take m keys) (d + 1) = record {
       few = omega arith;
       rising = λ i h. rw (key i (omega arith), key (i + 1) (omega arith)) (step d _ _ (codable.rising i (omega arith)) (split.zeros i (omega arith) ∙ sym (split.zeros (i + 1) (omega arith))));
@@ -139,11 +135,9 @@ pub rights_codable : (d : ℕ) (keys : List (List ℕ)) → IsCodable keys d →
 rights_codable d keys codable =
     let split = divides d keys codable in
     let m = length (with_bit 0 d keys) in
-    let within = split.within in
     let count = length-drop m keys in
     let key : (i : ℕ) → get_or (drop m keys) i [] ≡ get_or keys (m + i) [] = λ i. get_or-drop m keys i [] in
     let next : (i : ℕ) → get_or (drop m keys) (i + 1) [] ≡ get_or keys (m + i + 1) [] = λ i. get_or-drop m keys (i + 1) [] ∙ ap (λ (j : ℕ). get_or keys j []) (omega arith) in
-    let limit = codable.few in
     let part : IsCodable (drop m keys) (d + 1) = record {
       few = omega arith;
       rising = λ i h. rw (key i, next i) (step d _ _ (codable.rising (m + i) (omega arith))
@@ -172,7 +166,6 @@ pub bounds_down : (d low high middle : ℕ) (keys : List (List ℕ)) → IsCodab
     → middle < high → (bit_of d (get_or keys middle []) ≡ 0 → ⊥) → Bounds d keys low middle
 bounds_down d low high middle keys codable bounds from below high_bit =
     let split = divides d keys codable in
-    let within = bounds.within in
     let m = length (with_bit 0 d keys) in
     let past : m ≤ middle = elim (cases_lt middle m) [ inl inside ↦ absurd (high_bit (split.zeros middle inside)) | inr past ↦ past ] in
     record { ordered = from; within = omega arith; zeros = bounds.zeros; ones = λ i h l z. let one_bit = split.ones i (omega arith) l in absurd (omega arith) }
@@ -180,6 +173,4 @@ bounds_down d low high middle keys codable bounds from below high_bit =
 -- once the bounds meet, that many keys are on the left
 pub bounds_end : (d low high : ℕ) (keys : List (List ℕ)) → IsCodable keys d → Bounds d keys low high → high ≤ low → low ≡ length (with_bit 0 d keys)
 bounds_end d low high keys codable bounds done =
-    let ordered = bounds.ordered in
-    let within = bounds.within in
     count_is d low keys (omega arith) bounds.zeros (λ i h l. bounds.ones i (omega arith) l) codable

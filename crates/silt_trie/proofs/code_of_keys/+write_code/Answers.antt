@@ -1,7 +1,5 @@
-use Rattle.std.proofs.Common.{◌≡◌, [], ◌++◌, sym, ap, ◌∙◌, rules, arith, append-nil}
-use Rattle.std.proofs.lemmas.Result.{on_ok_weaker}
-use Rattle.silt_trie.specs.Coded.{bytes_of}
-use Rattle.silt_trie.specs.Code.{trie_code}
+use Rattle.silt_trie.proofs.Common.{◌≡◌, [], ◌++◌, sym, ap, ◌∙◌, rules, arith, on_ok_weaker, bytes_of, trie_code}
+use Rattle.std.proofs.Common.{append-nil}
 use Rattle.silt_trie.proofs.Codes.{short_code, deep_code, left_within, bytes_lefts, bytes_rights, length-bytes_of, written}
 use Rattle.silt_trie.proofs.Sides.{lefts_codable, rights_codable}
 use Rattle.silt_trie.proofs.code_of_keys.+write_code.Goals as goal

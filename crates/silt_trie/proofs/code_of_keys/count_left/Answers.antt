@@ -1,12 +1,10 @@
-use Rattle.std.proofs.Common.{◌+◌, ◌-◌, ◌/◌, [], sym, ap, ◌∙◌, arith}
-use Rattle.silt_trie.specs.Code.{bit_of}
+use Rattle.silt_trie.proofs.Common.{◌+◌, ◌-◌, ◌/◌, [], sym, ap, ◌∙◌, arith, bit_of}
 use Rattle.silt_trie.proofs.Codes.{bytes_at, length-bytes_of}
 use Rattle.silt_trie.proofs.Sides.{bounds_up, bounds_down, bounds_end}
 use Rattle.silt_trie.proofs.code_of_keys.count_left.Goals as goal
 
 pub loop-low-preserved-then-key_bit-eq0 : goal.loop-low-preserved-then-key_bit-eq0
 loop-low-preserved-then-key_bit-eq0 c =
-    let within = c.loop-low.invariant.within in
     let count = length-bytes_of c.args.keys.now in
     let middle = c.loop-low.low + (c.loop-low.high - c.loop-low.low) / 2 in
     let here = ap (bit_of c.args.depth) (bytes_at c.args.keys.now middle (record { 0 = [] }) (omega arith)) in
@@ -14,7 +12,6 @@ loop-low-preserved-then-key_bit-eq0 c =
 
 pub loop-low-preserved : goal.loop-low-preserved
 loop-low-preserved c =
-    let within = c.loop-low.invariant.within in
     let count = length-bytes_of c.args.keys.now in
     let middle = c.loop-low.low + (c.loop-low.high - c.loop-low.low) / 2 in
     let here = ap (bit_of c.args.depth) (bytes_at c.args.keys.now middle (record { 0 = [] }) (omega arith)) in

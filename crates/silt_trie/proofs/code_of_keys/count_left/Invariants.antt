@@ -1,5 +1,4 @@
-use Rattle.std.proofs.Common.{◌-◌}
-use Rattle.silt_trie.specs.Coded.{bytes_of}
+use Rattle.silt_trie.proofs.Common.{◌-◌, bytes_of}
 use Rattle.silt_trie.proofs.Sides.{Bounds}
 use Rattle.silt_trie.proofs.code_of_keys.count_left.Given as goal
 

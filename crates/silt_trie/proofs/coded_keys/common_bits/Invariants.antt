@@ -1,4 +1,4 @@
-use Rattle.silt_trie.specs.Code.{AgreeIn}
+use Rattle.silt_trie.proofs.Common.{AgreeIn}
 use Rattle.silt_trie.proofs.coded_keys.common_bits.Given as goal
 
 abbrev pub invariant-loop-at : goal.invariant-loop-at

@@ -1,4 +1,4 @@
-use Rattle.std.proofs.Common.{arith}
+use Rattle.silt_trie.proofs.Common.{arith}
 use Rattle.silt_trie.proofs.KeyBits.{key_bit_is}
 use Rattle.silt_trie.proofs.key.key_bit.Goals as goal
 

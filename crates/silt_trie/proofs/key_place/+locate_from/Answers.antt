@@ -1,5 +1,4 @@
-use Rattle.std.proofs.Common.{◌-◌, ◌∙◌, sym, inl, inr, arith}
-use Rattle.silt_trie.specs.Code.{with_bit}
+use Rattle.silt_trie.proofs.Common.{◌-◌, ◌∙◌, sym, inl, inr, arith, with_bit}
 use Rattle.silt_trie.proofs.Codes.{only_place, node, left_within, length_rights, stands_left, stands_right}
 use Rattle.silt_trie.proofs.Sides.{lefts_codable, rights_codable}
 use Rattle.silt_trie.proofs.key_place.+locate_from.Goals as goal
@@ -17,7 +16,6 @@ returns-then-left-eq0-clause-place t c = λ m keys i rest codable count is skips
     let begins = node keys d _ rest codable (omega arith) (omega arith) is in
     let inside = left_within d keys codable in
     let read = c.read_left-left.ensures.read _ _ begins (omega arith) in
-    let left = read.0 in
     let there = (stands_left d i c.args.key.now.0 keys codable stands (sym c.key_bit.ensures.bit ∙ c.if-key_bit-eq0.true)).0 in
     absurd (omega arith)
 
@@ -27,7 +25,6 @@ returns-then-key_bit-eq0-clause-place t c = λ m keys i rest codable count is sk
     let begins = node keys d _ rest codable (omega arith) (omega arith) is in
     let inside = left_within d keys codable in
     let read = c.read_left-left.ensures.read _ _ begins (omega arith) in
-    let left = read.0 in
     let there = stands_left d i c.args.key.now.0 keys codable stands (sym c.key_bit.ensures.bit ∙ c.if-key_bit-eq0.true) in
     let parts = c.divide_skips-skip.ensures m keys d skips in
     c.locate_from.ensures.place (m - 1) (with_bit 0 d keys) i _ (lefts_codable d keys codable) (omega arith) read.1 parts.left there
@@ -38,9 +35,7 @@ returns-then-left-count-clause-place t c = λ m keys i rest codable count is ski
     let begins = node keys d _ rest codable (omega arith) (omega arith) is in
     let inside = left_within d keys codable in
     let read = c.read_left-left.ensures.read _ _ begins (omega arith) in
-    let left = read.0 in
     let there = (stands_right d i c.args.key.now.0 keys codable stands (λ e. c.if-key_bit-eq0.false (c.key_bit.ensures.bit ∙ e))).0 in
-    let within = stands.0 in
     absurd (omega arith)
 
 pub returns-clause-place : goal.returns-clause-place
@@ -49,9 +44,7 @@ returns-clause-place t c = λ m keys i rest codable count is skips stands.
     let begins = node keys d _ rest codable (omega arith) (omega arith) is in
     let inside = left_within d keys codable in
     let read = c.read_left-left.ensures.read _ _ begins (omega arith) in
-    let left = read.0 in
     let there = stands_right d i c.args.key.now.0 keys codable stands (λ e. c.if-key_bit-eq0.false (c.key_bit.ensures.bit ∙ e)) in
-    let past = there.0 in
     let more = length_rights d keys codable in
     let parts = c.divide_skips-skip.ensures m keys d skips in
     let passed = c.pass_code.ensures (with_bit 0 d keys) _ (lefts_codable d keys codable) (omega arith) read.1 parts.over in

@@ -1,4 +1,4 @@
-use Rattle.std.proofs.Common.{◌-◌}
+use Rattle.silt_trie.proofs.Common.{◌-◌}
 use Rattle.silt_trie.proofs.key_place.+locate_from.Given as goal
 
 abbrev pub decreases-locate_from : goal.decreases-locate_from

@@ -1,4 +1,4 @@
-use Rattle.std.proofs.Common.{sym}
+use Rattle.silt_trie.proofs.Common.{sym}
 use Rattle.silt_trie.proofs.SkipsOf.{skips_none}
 use Rattle.silt_trie.proofs.key_place.locate_in.Goals as goal
 

@@ -1,6 +1,4 @@
-use Rattle.std.proofs.Common.{◌≡◌, ℕ, suc, ◌+◌, ◌-◌, List, get_or, inl, replicate, refl, sym, ◌∙◌, subst, arith, length-set}
-use Rattle.std.proofs.Math.ListN.{set}
-use Rattle.silt_gamma.specs.Gamma.{BeginsWithCode}
+use Rattle.silt_trie.proofs.Common.{◌≡◌, ℕ, suc, ◌+◌, ◌-◌, List, get_or, inl, replicate, refl, sym, ◌∙◌, subst, arith, length-set, set, BeginsWithCode}
 use Rattle.silt_gamma.proofs.Reading.{fewer_left}
 use Rattle.silt_trie.proofs.Codes.{after_none}
 use Rattle.silt_trie.proofs.Pending.{Pending, push_one, turn, next_begins, few_pending}
@@ -23,8 +21,7 @@ returns-in_default c = λ keys rest codable count is.
     let family : ℕ → Type 0 = λ t. Pending c.args.depth c.loop-top.pending t c.loop-top.bits rest in
     let pending : family (suc (c.loop-top.top - 1)) = subst family (sym one) (c.loop-top.invariant.1 keys rest codable count is) in
     let next = next_begins c.args.depth (c.loop-top.top - 1) c.loop-top.pending c.loop-top.bits rest pending in
-    let read = c.read_gamma.ensures.read _ _ next.2 in
-    absurd (c.in_default.not-Some _ read.0)
+    absurd (c.in_default.not-Some _ (c.read_gamma.ensures.read _ _ next.2).0)
 
 pub loop-top-smaller : goal.loop-top-smaller
 loop-top-smaller c = fewer_left c.in-Some.next _ _ c.in-Some.ensures.found

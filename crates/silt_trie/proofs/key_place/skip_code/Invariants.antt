@@ -1,5 +1,4 @@
-use Rattle.std.proofs.Common.{◌≡◌, ℕ, List, ◌++◌, length}
-use Rattle.silt_trie.specs.Code.{IsCodable, trie_code}
+use Rattle.silt_trie.proofs.Common.{◌≡◌, ℕ, List, ◌++◌, length, IsCodable, trie_code}
 use Rattle.silt_trie.proofs.Pending.{Pending}
 use Rattle.silt_trie.proofs.key_place.skip_code.Given as goal
 

@@ -1,7 +1,4 @@
-use Rattle.std.proofs.Common.{◌+◌, refl, arith}
-use Rattle.std.proofs.lemmas.Result.{on_ok_weaker}
-use Rattle.silt_trie.specs.Code.{IsCodable}
-use Rattle.silt_trie.specs.Coded.{bytes_of}
+use Rattle.silt_trie.proofs.Common.{◌+◌, refl, arith, on_ok_weaker, IsCodable, bytes_of}
 use Rattle.silt_trie.proofs.Codes.{left_within, bytes_lefts, bytes_rights, length-bytes_of}
 use Rattle.silt_trie.proofs.MarkedKeys.{code_marked, marks_marked}
 use Rattle.silt_trie.proofs.Sides.{lefts_codable, rights_codable}
@@ -17,20 +14,12 @@ pub write_marked-requires : goal.write_marked-requires
 write_marked-requires t c =
     let part : IsCodable (bytes_of c.split_at.result.0.now) (c.args.depth + 1) =
     rw (bytes_lefts c.args.depth _ _ _ c.requires.codable c.in_ok-left.ensures.left c.split_at.ensures.front) (lefts_codable c.args.depth _ c.requires.codable) in
-    let counted = c.requires.counted in
-    let within = c.requires.within in
-    let front = c.split_at.ensures.front_len in
-    let back = c.split_at.ensures.back_len in
     (omega arith, (part, (omega arith, omega arith)))
 
 pub write_marked-requires-2 : goal.write_marked-requires-2
 write_marked-requires-2 t c =
     let part : IsCodable (bytes_of c.split_at.result.1.now) (c.args.depth + 1) =
     rw (bytes_rights c.args.depth _ _ _ c.requires.codable c.in_ok-left.ensures.left c.split_at.ensures.back) (rights_codable c.args.depth _ c.requires.codable) in
-    let counted = c.requires.counted in
-    let within = c.requires.within in
-    let front = c.split_at.ensures.front_len in
-    let back = c.split_at.ensures.back_len in
     (omega arith, (part, (omega arith, omega arith)))
 
 pub returns-clause-code : goal.returns-clause-code

@@ -1,4 +1,4 @@
-use Rattle.std.proofs.Common.{arith}
+use Rattle.silt_trie.proofs.Common.{arith}
 use Rattle.silt_trie.proofs.Codes.{left_within}
 use Rattle.silt_trie.proofs.marked_code.write_head.Goals as goal
 

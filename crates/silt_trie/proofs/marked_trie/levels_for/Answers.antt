@@ -1,4 +1,4 @@
-use Rattle.std.proofs.Common.{◌≡◌, arith}
+use Rattle.silt_trie.proofs.Common.{◌≡◌, arith}
 use Rattle.silt_trie.proofs.marked_trie.levels_for.Goals as goal
 
 pub returns-clause-least : goal.returns-clause-least

@@ -1,4 +1,4 @@
-use Rattle.std.proofs.Common.{◌-◌, ◌*◌, ◌^◌, ◌<◌}
+use Rattle.silt_trie.proofs.Common.{◌-◌, ◌*◌, ◌^◌, ◌<◌}
 use Rattle.silt_trie.proofs.marked_trie.levels_for.Given as goal
 
 abbrev pub invariant-loop-levels : goal.invariant-loop-levels

@@ -1,6 +1,4 @@
-use Rattle.std.proofs.Common.{◌≡◌, ◌+◌, ℕ, ap, min, max, length, Some, arith}
-use Rattle.silt_trie.specs.Code.{trie_code}
-use Rattle.silt_trie.specs.Marks.{skip_levels}
+use Rattle.silt_trie.proofs.Common.{◌≡◌, ◌+◌, ℕ, ap, min, max, length, Some, arith, trie_code, skip_levels}
 use Rattle.silt_trie.proofs.MarkedKeys.{cut}
 use Rattle.silt_trie.proofs.marked_trie.locate_between.Goals as goal
 

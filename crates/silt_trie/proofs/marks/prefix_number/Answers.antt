@@ -1,5 +1,4 @@
-use Rattle.std.proofs.Common.{◌≡◌, ◌+◌, ◌-◌, ◌∙◌, arith}
-use Rattle.silt_trie.specs.Code.{bit_of}
+use Rattle.silt_trie.proofs.Common.{◌≡◌, ◌+◌, ◌-◌, ◌∙◌, arith, bit_of}
 use Rattle.silt_trie.proofs.KeyBits.{bit_small}
 use Rattle.silt_trie.proofs.MarkedKeys.{number_grows, number_step}
 use Rattle.silt_trie.proofs.marks.prefix_number.Goals as goal

@@ -1,5 +1,4 @@
-use Rattle.std.proofs.Common.{◌≡◌, ◌+◌, ◌-◌, ◌*◌, ◌^◌, ◌<◌}
-use Rattle.silt_trie.specs.Marks.{number_of_bits, prefix_of}
+use Rattle.silt_trie.proofs.Common.{◌≡◌, ◌+◌, ◌-◌, ◌*◌, ◌^◌, ◌<◌, number_of_bits, prefix_of}
 use Rattle.silt_trie.proofs.marks.prefix_number.Given as goal
 
 abbrev pub invariant-loop-at : goal.invariant-loop-at

@@ -1,8 +1,4 @@
-use Rattle.std.proofs.Common.{◌≡◌, ℕ, ◌+◌, ◌-◌, ◌^◌, ◌∷◌, ◌++◌, length, min, replicate, refl, rules, arith}
-use Rattle.std.proofs.lemmas.Result.{on_ok_weaker}
-use Rattle.silt_trie.specs.Coded.{bytes_of}
-use Rattle.silt_trie.specs.Code.{trie_code}
-use Rattle.silt_trie.specs.Marks.{skips_of}
+use Rattle.silt_trie.proofs.Common.{◌≡◌, ℕ, ◌+◌, ◌-◌, ◌^◌, ◌∷◌, ◌++◌, length, min, replicate, refl, rules, arith, on_ok_weaker, bytes_of, trie_code, skips_of}
 use Rattle.silt_trie.proofs.Codes.{deep_few, bytes_lefts, bytes_rights, length-bytes_of, written}
 use Rattle.silt_trie.proofs.Sides.{lefts_codable, rights_codable}
 use Rattle.silt_trie.proofs.SkipsOf.{code_of_few, left_small, skips_written, zeros_end, zeros_few}

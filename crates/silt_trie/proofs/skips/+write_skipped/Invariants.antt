@@ -1,4 +1,4 @@
-use Rattle.std.proofs.Common.{◌-◌}
+use Rattle.silt_trie.proofs.Common.{◌-◌}
 use Rattle.silt_trie.proofs.skips.+write_skipped.Given as goal
 
 abbrev pub decreases-write_skipped : goal.decreases-write_skipped

@@ -1,4 +1,4 @@
-use Rattle.std.proofs.Common.{refl}
+use Rattle.silt_trie.proofs.Common.{refl}
 use Rattle.silt_trie.proofs.SkipsOf.{divided_none, divided_some}
 use Rattle.silt_trie.proofs.skips.divide_skips.Goals as goal
 

@@ -1,4 +1,4 @@
-use Rattle.std.proofs.Common.{sym, ap, ◌∙◌, is_lt}
+use Rattle.silt_trie.proofs.Common.{sym, ap, ◌∙◌, is_lt}
 use Rattle.silt_trie.proofs.Above.{may_follow}
 use Rattle.silt_trie.proofs.trie_builder.is_below.Goals as goal
 

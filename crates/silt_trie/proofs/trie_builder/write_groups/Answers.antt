@@ -1,5 +1,4 @@
-use Rattle.std.proofs.Common.{◌≡◌, [], rules, arith}
-use Rattle.silt_trie.specs.Coded.{Grows}
+use Rattle.silt_trie.proofs.Common.{◌≡◌, [], rules, arith, Grows}
 use Rattle.silt_trie.proofs.Built.{codes_more}
 use Rattle.silt_trie.proofs.Growing.{grows_twice}
 use Rattle.silt_trie.proofs.trie_builder.write_groups.Goals as goal

@@ -1,4 +1,4 @@
-use Rattle.std.proofs.Common.{sym, ◌∙◌, arith}
+use Rattle.silt_trie.proofs.Common.{sym, ◌∙◌, arith}
 use Rattle.std.proofs.lemmas.Option.{same_Some}
 use Rattle.silt_trie.proofs.MarkedKeys.{in_range, located, prefix_small}
 use Rattle.silt_trie.proofs.marked_trie.MarkedTrie.locate_marked.Goals as goal
@@ -21,8 +21,6 @@ returns-in_default-clause-place c = rw (← c.self.view_is) λ keys i is stands.
     let there = sym c.in-Some.is ∙ located _ keys i c.prefix_number-at.result _ _ _ c.locate_between-found.result is stands
     c.self.invariant.0 c.self.invariant.2 c.prefix_number-at.ensures c.index.ensures c.index-2.ensures c.locate_between-found.ensures.place in
     let same = same_Some _ _ there in
-    let count = is.count_is in
-    let within = stands.0 in
     absurd (omega (arith, c.if-place-self.false))
 
 pub returns-in_default-2-clause-place : goal.returns-in_default-2-clause-place

@@ -1,5 +1,4 @@
-use Rattle.std.proofs.Common.{◌≡◌, ◌++◌, ◌∷◌, [], rules}
-use Rattle.silt_trie.specs.Marks.{mark_behind}
+use Rattle.silt_trie.proofs.Common.{◌≡◌, ◌++◌, ◌∷◌, [], rules, mark_behind}
 use Rattle.silt_trie.proofs.Above.{building_of}
 use Rattle.silt_trie.proofs.Built.{finished}
 use Rattle.silt_trie.proofs.Growing.{grows_more}

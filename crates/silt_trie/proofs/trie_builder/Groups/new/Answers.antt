@@ -1,4 +1,4 @@
-use Rattle.std.proofs.Common.{refl}
+use Rattle.silt_trie.proofs.Common.{refl}
 use Rattle.silt_trie.proofs.Built.{built_none}
 use Rattle.silt_trie.proofs.trie_builder.Groups.new.Goals as goal
 

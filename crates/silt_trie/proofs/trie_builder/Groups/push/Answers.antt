@@ -1,6 +1,4 @@
-use Rattle.std.proofs.Common.{◌+◌, ◌^◌, ◌<◌, List, refl, ap, ◌∙◌, arith}
-use Rattle.silt_frame.specs.declared.key.Key.{Key}
-use Rattle.silt_trie.specs.Building.{Building}
+use Rattle.silt_trie.proofs.Common.{◌+◌, ◌^◌, ◌<◌, List, refl, ap, ◌∙◌, arith, Key, Building}
 use Rattle.silt_trie.proofs.Above.{building_of, built_push, held_push}
 use Rattle.silt_trie.proofs.Built.{ComesTo, comes_no_further, comes_to}
 use Rattle.silt_trie.proofs.trie_builder.Groups.push.Goals as goal

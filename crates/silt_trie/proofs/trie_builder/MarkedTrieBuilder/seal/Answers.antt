@@ -1,5 +1,4 @@
-use Rattle.std.proofs.Common.{ap, ◌∙◌, sym}
-use Rattle.silt_trie.specs.declared.trie_builder.Cut.{Cut}
+use Rattle.silt_trie.proofs.Common.{ap, ◌∙◌, sym, Cut}
 use Rattle.silt_trie.proofs.Sealing.{has_sealed, seals, trie_of_opened}
 use Rattle.silt_trie.proofs.trie_builder.MarkedTrieBuilder.seal.Goals as goal
 
