@@ -1,36 +1,30 @@
 -- Which bytes of an image count, and what a change leaves of its stores.
-use Rattle.std.proofs.Common.{◌≡◌, ◌≢◌, ℕ, zero, suc, ◌+◌, ◌*◌, ◌%◌, ◌≤◌, ◌<◌, ◌⊎◌, ◌==◌, inl, inr, true, false, nat_lt, List, [], ◌∷◌, length, map}
-use Rattle.std.proofs.Common.{slice_range, slice_get, Contains, Option, Result, Ok, Err, refl, sym, ap, ◌∙◌, arith}
-use Rattle.std.specs.List.{list_any, prefix_len, range_with_len}
-use Rattle.std.proofs.lemmas.Bool.{and_parts, or_parts, ltb-true, eq-eqb, eqb-false, ne_eqb, cases_eq, cases_order}
+use Rattle.silt_image.proofs.Common.{◌≢◌, zero, suc, ◌+◌, ◌%◌, ◌≤◌, ◌<◌, ◌⊎◌, ◌==◌, inl, inr, true, false, nat_lt, slice_range, slice_get, sym, ap, ◌∙◌, arith, list_any, range_with_len, and_parts}
+use Rattle.silt_image.proofs.Common.{or_parts, eq-eqb, ne_eqb, length-between, Shape, device_size, StoredRow, put_count, is_well_formed, manifest_found, open_record, Body, Digests, SlotRecord}
+use Rattle.silt_image.proofs.Common.{Damage, header_of, header_shape, log_part, Stores, stores_of_current, stores_shaped, findings_of, map_where_sound, all_logs_fit, rows_found, with_part_rows}
+use Rattle.silt_image.proofs.Common.{map_of_rows, HasStores, Finding}
+use Rattle.std.proofs.Common.{◌≡◌, ℕ, ◌*◌, List, [], ◌∷◌, length, map, Contains, Option, Result, Ok, Err, refl}
+use Rattle.std.specs.List.{prefix_len}
+use Rattle.std.proofs.lemmas.Bool.{ltb-true, eqb-false, cases_eq, cases_order}
 use Rattle.std.proofs.lemmas.List.{ext_get_or}
-use Rattle.std.proofs.lemmas.List.Edits.{length-between, get_or-between}
+use Rattle.std.proofs.lemmas.List.Edits.{get_or-between}
 use Rattle.silt_disk.specs.Disk.{Torn}
-use Rattle.silt_disk.specs.Layout.{Shape, row_len, entry_len, slot_at, log_size, hash_size, sorted_size, commits_at, bodies_at, hash_at, sorted_at, device_size}
+use Rattle.silt_disk.specs.Layout.{row_len, entry_len, slot_at, log_size, hash_size, sorted_size, commits_at, bodies_at, hash_at, sorted_at}
 use Rattle.silt_disk.proofs.Regions.{next_region, up_least}
 use Rattle.silt_disk.proofs.Images.{torn_slice_before}
 use Rattle.silt_frame.specs.Commit.{is_open}
 use Rattle.silt_log.specs.Rows.{body_row, commit_bytes, log_rows, open_count, row_at, rows_from}
-use Rattle.silt_frame.specs.Rows.{row_of, StoredRow, entry_row, put_count}
+use Rattle.silt_frame.specs.Rows.{row_of, entry_row}
 use Rattle.silt_log.proofs.Bodies.{map_range_same, body_before}
 use Rattle.silt_log.proofs.Counts.{count_most}
-use Rattle.silt_manifest.specs.Body.{all_below, is_well_formed}
-use Rattle.silt_manifest.specs.Current.{manifest_found, open_record, record_behind, record_found}
-use Rattle.silt_manifest.specs.declared.body.Body.{Body}
-use Rattle.silt_manifest.specs.declared.digests.Digests.{Digests}
-use Rattle.silt_manifest.specs.declared.slot.SlotRecord.{SlotRecord}
-use Rattle.silt_manifest.specs.declared.slot.Damage.{Damage}
+use Rattle.silt_manifest.specs.Body.{all_below}
+use Rattle.silt_manifest.specs.Current.{record_behind}
 use Rattle.silt_manifest.proofs.SoundBodies.{sound_parts}
-use Rattle.silt_disk.specs.Header.{header_of, header_shape, version_of}
-use Rattle.silt_log.specs.Parts.{Part, log_part}
-use Rattle.silt_image.specs.Stores.{Stores, digests_found, image_digests, image_stores, shape_found, stores_named, stores_of_current, stores_shaped}
+use Rattle.silt_image.specs.Stores.{image_digests, image_stores, shape_found, stores_named}
 use Rattle.silt_hash_store.specs.Slots.{hash_part, hash_rows}
 use Rattle.silt_sorted_store.specs.State.{sorted_rows}
-use Rattle.silt_image.specs.Meaning.{image_charge, image_fits, image_map, image_rows, image_stands, image_verdict, findings_of, map_where_sound, all_logs_fit}
-use Rattle.silt_image.specs.Meaning.{rows_found, with_log_rows, with_new_log, with_part_rows}
-use Rattle.silt_event.specs.Rows.{map_of_rows}
-use Rattle.silt_image.specs.Laws.{Agree, FrameLaw, FreeHashLaw, FreeSortedLaw, FreezeLaw, FreezesActive, HasStores, LogRegionLaw, ManifestLaw, MeaningLaw, SameRegions, SameWithin}
-use Rattle.silt_event.specs.declared.damage.Finding.{Finding}
+use Rattle.silt_image.specs.Meaning.{image_charge, image_fits, image_map, image_rows, image_stands, image_verdict, with_log_rows, with_new_log}
+use Rattle.silt_image.specs.Laws.{Agree, FrameLaw, FreeHashLaw, FreeSortedLaw, FreezeLaw, FreezesActive, LogRegionLaw, ManifestLaw, MeaningLaw, SameRegions, SameWithin}
 use Rattle.silt_image.proofs.Named.{record_with, stores_law, current_sound, shape_parts}
 use Rattle.silt_image.proofs.Rows.{keeps_rows, takes_rows}
 
@@ -155,8 +149,7 @@ pub below_from : (n : ℕ) (ids : List ℕ) (id : ℕ) → all_below n ids ≡ t
 below_from n [] id all (k, inside, here) = absurd (omega arith)
 below_from n (first ∷ ids) id all (zero, inside, here) =
     let parts = and_parts (nat_lt first n) (all_below n ids) all in
-    let h = ltb-true first n parts.0 in
-    omega (arith, here)
+    omega (arith, ltb-true first n parts.0, here)
 below_from n (first ∷ ids) id all (suc k, inside, here) =
     let parts = and_parts (nat_lt first n) (all_below n ids) all in
     below_from n ids id parts.1 (k, omega arith, here)
@@ -214,10 +207,7 @@ named_from : (s : Shape) (b : Body) (before after : List ℕ) → map (log_part 
     → map (hash_part s after) b.hashed ≡ map (hash_part s before) b.hashed
     → sorted_rows s b.sorted b.sorted_count after ≡ sorted_rows s b.sorted b.sorted_count before → stores_named s b after ≡ stores_named s b before
 unfolding stores_named
-named_from s b before after logs hashes entries =
-    ap (λ (ps : List Part). record { shape = s; body = b; logs = ps; hashes = map (hash_part s after) b.hashed; entries = sorted_rows s b.sorted b.sorted_count after }) logs
-    ∙ ap (λ (ps : List Part). record { shape = s; body = b; logs = map (log_part s before) (b.active ∷ b.frozen); hashes = ps; entries = sorted_rows s b.sorted b.sorted_count after }) hashes
-    ∙ ap (λ (es : List StoredRow). record { shape = s; body = b; logs = map (log_part s before) (b.active ∷ b.frozen); hashes = map (hash_part s before) b.hashed; entries = es }) entries
+named_from s b before after logs hashes entries = cc
 
 -- the named regions decide the stores
 pub stores_named_same : (s : Shape) (b : Body) (before after : List ℕ) → NamesRegions s b → length after ≡ length before
@@ -234,10 +224,7 @@ stores_named_same s b before after there size fits same =
 -- one header, and two slots with the same records
 same_manifest : (s : Shape) (before after : List ℕ) → header_of after ≡ header_of before → open_record after 0 ≡ open_record before 0
     → open_record after 1 ≡ open_record before 1 → manifest_found s after ≡ manifest_found s before
-same_manifest s before after header first second =
-    ap (λ (bytes : List ℕ). record_found s (version_of bytes) (open_record after 0) (open_record after 1)) header
-    ∙ ap (λ (held : Option SlotRecord). record_found s (version_of (header_of before)) held (open_record after 1)) first
-    ∙ ap (λ (held : Option SlotRecord). record_found s (version_of (header_of before)) (open_record before 0) held) second
+same_manifest s before after header first second = cc
 
 -- a change after the slots leaves their records
 manifest_before : (s : Shape) (at count : ℕ) (before after : List ℕ) → 12288 ≤ at → 12288 ≤ length before → header_of after ≡ header_of before
@@ -277,17 +264,12 @@ frame_shaped before after agree (Ok shape) has =
 -- images that agree on all that counts have the same stores
 frame_stores : (before after : List ℕ) → Agree before after → image_stores after ≡ image_stores before
 unfolding image_stores
-frame_stores before after agree =
-    ap (λ (n : ℕ). stores_shaped after (shape_found n (header_of after))) agree.size
-    ∙ ap (λ (header : List ℕ). stores_shaped after (shape_found (length before) header)) agree.header
-    ∙ frame_shaped before after agree (shape_found (length before) (header_of before)) refl
+frame_stores before after agree = cc (agree.size, agree.header, frame_shaped before after agree (shape_found (length before) (header_of before)) refl)
 
 -- and have the same digests in their manifests
 frame_digests : (before after : List ℕ) → Agree before after → image_digests after ≡ image_digests before
 unfolding image_digests
-frame_digests before after agree =
-    ap (λ (header : List ℕ). digests_found (manifest_found (header_shape header) after)) agree.header
-    ∙ ap digests_found (same_manifest (header_shape (header_of before)) before after agree.header agree.first_slot agree.second_slot)
+frame_digests before after agree = cc (agree.header, same_manifest (header_shape (header_of before)) before after agree.header agree.first_slot agree.second_slot)
 
 pub frame_law : FrameLaw
 frame_law before after agree = (frame_stores before after agree, frame_digests before after agree)
@@ -329,8 +311,7 @@ log_after : (s : Shape) (region id : ℕ) (before after : List ℕ) → Torn (co
     → device_size s ≤ length before → id < s.logs → with_part_rows region (log_rows s region after) (log_part s before id) ≡ log_part s after id
 log_after s region id before after torn fits there = elim (cases_eq id region) [
   | inl is ↦
-      takes_rows region (log_rows s region after) (log_part s before id) (eq-eqb id region is)
-      ∙ ap (λ (n : ℕ). record { region = id; rows = log_rows s n after }) (sym is)
+      cc (takes_rows region (log_rows s region after) (log_part s before id) (eq-eqb id region is))
   | inr other ↦
       keeps_rows region (log_rows s region after) (log_part s before id) (ne_eqb id region other)
       ∙ ap (λ (rows : List StoredRow). record { region = id; rows = rows })
@@ -346,8 +327,7 @@ logs_after s region [] before after torn fits there = refl
 logs_after s region (id ∷ ids) before after torn fits there =
     let first : with_part_rows region (log_rows s region after) (log_part s before id) ≡ log_part s after id = log_after s region id before after torn fits (there id (0, omega arith, refl)) in
     let rest = logs_after s region ids before after torn fits (λ other (k, below, here). there other (suc k, omega arith, here)) in
-    ap (λ (p : Part). p ∷ map (with_part_rows region (log_rows s region after)) (map (log_part s before) ids)) first
-    ∙ ap (λ (ps : List Part). log_part s after id ∷ ps) rest
+    cc
 
 -- the named stores, with the rows that a log has now
 log_changed : (s : Shape) (b : Body) (region : ℕ) (before after : List ℕ) → NamesRegions s b → Torn (commits_at s region) (log_size s) before after → device_size s ≤ length before → region < s.logs
@@ -363,9 +343,7 @@ log_changed s b region before after there torn fits below =
     sym (entries_same s b.sorted b.sorted_count before after torn.size fits there.sorted there.sorted_count
     (torn_same (commits_at s region) (log_size s) (sorted_at s b.sorted) (sorted_size s) before after torn
     (inr (log_before_sorted s.logs s.hashes (log_size s) (hash_size s) (sorted_size s) region b.sorted below)))) in
-    ap (λ (ps : List Part). record { shape = s; body = b; logs = ps; hashes = map (hash_part s before) b.hashed; entries = sorted_rows s b.sorted b.sorted_count before }) logs
-    ∙ ap (λ (ps : List Part). record { shape = s; body = b; logs = map (log_part s after) (b.active ∷ b.frozen); hashes = ps; entries = sorted_rows s b.sorted b.sorted_count before }) hashes
-    ∙ ap (λ (es : List StoredRow). record { shape = s; body = b; logs = map (log_part s after) (b.active ∷ b.frozen); hashes = map (hash_part s after) b.hashed; entries = es }) entries
+    cc
 
 -- other rows leave the shape and the body
 shape_stays : (region : ℕ) (rows : List StoredRow) (s : Stores) → (with_log_rows region rows s).shape ≡ s.shape
@@ -461,50 +439,9 @@ manifest_law before after s slot found e below torn is_current =
 freeze_named : (sh : Shape) (old next : Body) (image : List ℕ) → FreezesActive old next → log_rows sh next.active image ≡ []
     → stores_named sh next image ≡ with_new_log next (stores_named sh old image)
 unfolding stores_named with_new_log
-freeze_named sh old next image freezes none =
-    ap (λ (ids : List ℕ). record {
-      shape = sh;
-      body = next;
-      logs = log_part sh image next.active ∷ map (log_part sh image) ids;
-      hashes = map (hash_part sh image) next.hashed;
-      entries = sorted_rows sh next.sorted next.sorted_count image;
-    })
-    freezes.frozen
-    ∙ ap (λ (rows : List StoredRow). record {
-      shape = sh;
-      body = next;
-      logs = record { region = next.active; rows = rows } ∷ map (log_part sh image) (old.active ∷ old.frozen);
-      hashes = map (hash_part sh image) next.hashed;
-      entries = sorted_rows sh next.sorted next.sorted_count image;
-    })
-    none
-    ∙ ap (λ (ids : List ℕ). record {
-      shape = sh;
-      body = next;
-      logs = record { region = next.active; rows = [] } ∷ map (log_part sh image) (old.active ∷ old.frozen);
-      hashes = map (hash_part sh image) ids;
-      entries = sorted_rows sh next.sorted next.sorted_count image;
-    })
-    freezes.hashed
-    ∙ ap (λ (n : ℕ). record {
-      shape = sh;
-      body = next;
-      logs = record { region = next.active; rows = [] } ∷ map (log_part sh image) (old.active ∷ old.frozen);
-      hashes = map (hash_part sh image) old.hashed;
-      entries = sorted_rows sh n next.sorted_count image;
-    })
-    freezes.sorted
-    ∙ ap (λ (n : ℕ). record {
-      shape = sh;
-      body = next;
-      logs = record { region = next.active; rows = [] } ∷ map (log_part sh image) (old.active ∷ old.frozen);
-      hashes = map (hash_part sh image) old.hashed;
-      entries = sorted_rows sh old.sorted n image;
-    })
-    freezes.sorted_count
+freeze_named sh old next image freezes none = cc (freezes.frozen, freezes.hashed, freezes.sorted, freezes.sorted_count)
 
 -- a body that freezes the active log names the stores with a new log in front
 pub freeze_law : FreezeLaw
 freeze_law image s next e freezes none =
-    let has = (stores_law image s).0 e in
-    freeze_named s.shape s.body next image freezes none ∙ ap (with_new_log next) (sym has.named)
+    freeze_named s.shape s.body next image freezes none ∙ ap (with_new_log next) (sym ((stores_law image s).0 e).named)

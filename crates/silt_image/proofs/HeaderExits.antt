@@ -1,11 +1,9 @@
 -- What is found in a header, at each exit of reading it.
-use Rattle.std.proofs.Common.{◌≡◌, ◌≢◌, ℕ, ◌≤◌, ◌<◌, ◌==◌, Bool, true, false, nat_le, ◌&&◌, List, Ok, Err, sym, ap, ◌∙◌}
-use Rattle.std.proofs.lemmas.Bool.{and_from, and_left, and_right, eq-eqb, ne_eqb, false_from_ne_true, lt-leb}
-use Rattle.silt_disk.specs.Layout.{Shape, InLimits, device_size}
-use Rattle.silt_disk.specs.Header.{header_shape, is_formatted, is_in_limits}
+use Rattle.silt_image.proofs.Common.{◌≢◌, ◌≤◌, ◌<◌, ◌==◌, Bool, true, false, nat_le, ◌&&◌, sym, ap, ◌∙◌, and_from, eq-eqb, ne_eqb, Shape, InLimits, device_size, header_shape, is_formatted}
+use Rattle.silt_image.proofs.Common.{is_in_limits, NotFormatted, Damaged, Header, Length}
+use Rattle.std.proofs.Common.{◌≡◌, ℕ, List, Ok, Err}
+use Rattle.std.proofs.lemmas.Bool.{and_left, and_right, false_from_ne_true, lt-leb}
 use Rattle.silt_image.specs.Stores.{shape_found}
-use Rattle.silt_event.specs.declared.damage.Finding.TheVariants.{NotFormatted, Damaged}
-use Rattle.silt_event.specs.declared.place.Place.TheVariants.{Header, Length}
 use Rattle.silt_image.proofs.Named.{limits_law, test_at_most, tested}
 
 -- the tests up to the one that fails

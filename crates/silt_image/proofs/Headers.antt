@@ -1,11 +1,11 @@
 -- What is written in a header is what is read.
-use Rattle.std.proofs.Common.{◌≡◌, ℕ, ◌^◌, ◌<◌, ◌≤◌, ◌==◌, Bool, true, false, nat_le, ◌&&◌, List, [], ◌∷◌, Ok, refl, sym, ap, ◌∙◌, arith, append-nil}
-use Rattle.std.proofs.lemmas.Bool.{and_from, eq-eqb}
-use Rattle.byteorder.specs.Endian.{big_number, big_bytes}
+use Rattle.silt_image.proofs.Common.{◌<◌, ◌≤◌, ◌==◌, Bool, true, nat_le, ◌&&◌, sym, ap, ◌∙◌, arith, append-nil, and_from, eq-eqb, big_bytes, Shape, InLimits, device_size, header_bytes, header_shape}
+use Rattle.silt_image.proofs.Common.{is_formatted, is_in_limits}
+use Rattle.std.proofs.Common.{◌≡◌, ℕ, ◌^◌, List, [], ◌∷◌, Ok, refl}
+use Rattle.byteorder.specs.Endian.{big_number}
 use Rattle.byteorder.specs.Numbers.{big_number-reads_back}
-use Rattle.silt_disk.specs.Layout.{Shape, InLimits, device_size}
 use Rattle.silt_disk.proofs.Regions.{bucket_count_most}
-use Rattle.silt_disk.specs.Header.{FitsHeader, header_bytes, header_shape, is_formatted, is_in_limits}
+use Rattle.silt_disk.specs.Header.{FitsHeader}
 use Rattle.silt_image.specs.Stores.{shape_found}
 use Rattle.silt_image.specs.Laws.{FormattedLaw, HeaderLaw}
 use Rattle.silt_image.proofs.Named.{limits_law, test_at_most, tested}
@@ -21,9 +21,7 @@ header_law shape commit rest fits =
     let b = reads shape.buckets fits.buckets in
     let c = reads shape.log_capacity fits.log_capacity in
     let d = reads shape.logs fits.logs in
-    let e = reads shape.hashes fits.hashes in
-    let f = reads shape.sorted_capacity fits.sorted_capacity in
-    rw (a, b, c, d, e, f) refl
+    rw (a, b, c, d, (reads shape.hashes fits.hashes), (reads shape.sorted_capacity fits.sorted_capacity)) refl
 
 -- numbers within the limits fit a header
 pub fits_header : (shape : Shape) → InLimits shape → FitsHeader shape
@@ -45,9 +43,7 @@ formatted_header shape = refl
 -- tests that all succeed
 all_tests : (a b c : Bool) (shape : Shape) → a ≡ true → b ≡ true → c ≡ true → tested a b c shape ≡ Ok shape
 all_tests true true true shape p q r = refl
-all_tests false b c shape p q r = absurd (cc)
-all_tests true false c shape p q r = absurd (cc)
-all_tests true true false shape p q r = absurd (cc)
+all_tests a b c shape p q r = absurd (cc)
 
 -- a device is longer than its header
 long_device : (shape : Shape) → 37 ≤ device_size shape

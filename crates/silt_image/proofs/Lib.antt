@@ -1,3 +1,4 @@
+pub mod Common
 pub mod Named
 pub mod Rows
 pub mod Frame

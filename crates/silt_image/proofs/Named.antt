@@ -1,28 +1,18 @@
 -- What an image with stores has.
-use Rattle.std.proofs.Common.{◌≡◌, ◌⊎◌, inl, inr, ℕ, ◌*◌, ◌%◌, ◌≤◌, ◌==◌, Bool, true, false, not, nat_le, nat_lt, ◌&&◌, ◌||◌, if◌then◌else◌, List, [], ◌∷◌}
-use Rattle.std.proofs.Common.{length, map, slice_range, Option, Some, None, Result, Ok, Err, refl, sym, ap, ◌∙◌, arith}
-use Rattle.std.specs.List.{list_any}
-use Rattle.std.proofs.lemmas.Bool.{and_parts, not-true, eqb-true}
+use Rattle.silt_image.proofs.Common.{◌⊎◌, inl, inr, ◌%◌, ◌≤◌, ◌==◌, Bool, true, false, not, nat_le, nat_lt, ◌&&◌, if◌then◌else◌, slice_range, sym, ap, ◌∙◌, arith, list_any, and_parts}
+use Rattle.silt_image.proofs.Common.{length-between, bytes_eq-Decides, Shape, InLimits, device_size, is_well_formed, manifest_found, open_record, Body, Digests, SlotRecord, Damage, header_of}
+use Rattle.silt_image.proofs.Common.{header_shape, is_formatted, is_in_limits, magic, Part, log_part, Stores, stores_of_current, stores_shaped, HasStores, Finding, NotFormatted, Damaged, Header}
+use Rattle.silt_image.proofs.Common.{Length}
+use Rattle.std.proofs.Common.{◌≡◌, ℕ, ◌*◌, ◌||◌, List, [], ◌∷◌, length, map, Option, Some, None, Result, Ok, Err, refl}
+use Rattle.std.proofs.lemmas.Bool.{not-true, eqb-true}
 use Rattle.std.proofs.lemmas.Bool.Decides.{nat_tests}
-use Rattle.std.proofs.lemmas.List.Edits.{length-between}
-use Rattle.std.proofs.lemmas.Slice.Eq.{bytes_eq-Decides}
-use Rattle.silt_disk.specs.Layout.{Shape, InLimits, device_size, is_bucket_count}
-use Rattle.silt_manifest.specs.Body.{is_well_formed}
-use Rattle.silt_manifest.specs.Current.{manifest_found, record_found, greater_record, has_due_digests, is_sound_record, open_record}
-use Rattle.silt_manifest.specs.declared.body.Body.{Body}
-use Rattle.silt_manifest.specs.declared.digests.Digests.{Digests}
-use Rattle.silt_manifest.specs.declared.slot.SlotRecord.{SlotRecord}
-use Rattle.silt_manifest.specs.declared.slot.Damage.{Damage}
+use Rattle.silt_manifest.specs.Current.{record_found, greater_record, has_due_digests, is_sound_record}
 use Rattle.silt_manifest.specs.declared.slot.Damage.TheVariants as damage
 use Rattle.silt_manifest.proofs.SoundBodies.{own_slot}
-use Rattle.silt_disk.specs.Header.{IsHeader, header_of, header_shape, is_formatted, is_in_limits, magic, version_number, version_of}
+use Rattle.silt_disk.specs.Header.{IsHeader, version_number, version_of}
 use Rattle.silt_disk.specs.declared.header.Version.{Version}
-use Rattle.silt_log.specs.Parts.{Part, log_part}
-use Rattle.silt_image.specs.Stores.{Stores, digests_found, image_digests, image_stores, shape_found, stores_named, stores_of_current, stores_shaped}
-use Rattle.silt_image.specs.Laws.{DigestsLaw, HasStores, LimitsLaw, StoresLaw, WholeLaw}
-use Rattle.silt_event.specs.declared.damage.Finding.{Finding}
-use Rattle.silt_event.specs.declared.damage.Finding.TheVariants.{NotFormatted, Damaged}
-use Rattle.silt_event.specs.declared.place.Place.TheVariants.{Header, Length}
+use Rattle.silt_image.specs.Stores.{digests_found, image_digests, image_stores, shape_found, stores_named}
+use Rattle.silt_image.specs.Laws.{DigestsLaw, LimitsLaw, StoresLaw, WholeLaw}
 
 -- ---- the header
 
@@ -63,24 +53,19 @@ test_at_most a b is = grind (arith, nat_tests)
 
 -- and put together
 in_limits : (s : Shape) → InLimits s → is_in_limits s ≡ true
-in_limits s limits =
-    let a = test_at_most 1 s.value_len limits.value_len_least in
-    let b = test_at_most s.value_len 4096 limits.value_len_most in
-    let c : is_bucket_count s.buckets ≡ true = limits.buckets in
-    let d = test_at_most 1 s.log_capacity limits.log_capacity_least in
-    let e = test_at_most s.log_capacity (4 * s.buckets) limits.log_capacity_most in
-    let f = test_at_most 2 s.logs limits.logs_least in
-    let g = test_at_most s.logs 8 limits.logs_most in
-    let h = test_at_most 1 s.hashes limits.hashes_least in
-    let i = test_at_most s.hashes 16 limits.hashes_most in
-    let j = test_at_most 1 s.sorted_capacity limits.sorted_capacity_least in
-    let k = test_at_most s.sorted_capacity 16777216 limits.sorted_capacity_most in
-    all_true (nat_le 1 s.value_len) _ (is_bucket_count s.buckets) _ _ _ _ _ _ _ _ a b c d e f g h i j k
-  where
-    all_true : (a b c d e f g h i j k : Bool) → a ≡ true → b ≡ true → c ≡ true → d ≡ true → e ≡ true → f ≡ true → g ≡ true → h ≡ true → i ≡ true → j ≡ true → k ≡ true
-        → (a && b && c && d && e && f && g && h && i && j && k) ≡ true
-    all_true true true true true true true true true true true true p q r s t u v w x y z = refl
-    all_true _ _ _ _ _ _ _ _ _ _ _ p q r s t u v w x y z = cc
+in_limits s limits = cc (
+  test_at_most 1 s.value_len limits.value_len_least,
+  test_at_most s.value_len 4096 limits.value_len_most,
+  limits.buckets,
+  test_at_most 1 s.log_capacity limits.log_capacity_least,
+  test_at_most s.log_capacity (4 * s.buckets) limits.log_capacity_most,
+  test_at_most 2 s.logs limits.logs_least,
+  test_at_most s.logs 8 limits.logs_most,
+  test_at_most 1 s.hashes limits.hashes_least,
+  test_at_most s.hashes 16 limits.hashes_most,
+  test_at_most 1 s.sorted_capacity limits.sorted_capacity_least,
+  test_at_most s.sorted_capacity 16777216 limits.sorted_capacity_most,
+)
 
 -- the test of the limits decides them
 pub limits_law : LimitsLaw
@@ -92,10 +77,8 @@ tested formatted limited long shape = if not formatted then Err NotFormatted els
 
 -- they all succeed if a shape is found
 all_passed : (a b c : Bool) (found shape : Shape) → tested a b c found ≡ Ok shape → (a ≡ true) × (b ≡ true) × (c ≡ true) × (found ≡ shape)
-all_passed false b c found shape e = absurd (cc)
-all_passed true false c found shape e = absurd (cc)
-all_passed true true false found shape e = absurd (cc)
 all_passed true true true found shape e = (refl, refl, refl, cc)
+all_passed a b c found shape e = absurd (cc)
 
 -- what a header has whose device has a shape
 pub record IsShaped (len : ℕ) (header : List ℕ) (shape : Shape) : Type 0 where
@@ -232,13 +215,7 @@ any_part shape image region (id ∷ ids) = ap (λ rest. (id == region) || rest) 
 -- the active log is not among the frozen ones
 pub apart_of : (s : Shape) (slot : ℕ) (b : Body) → is_well_formed s slot b ≡ true → list_any (λ id. id == b.active) b.frozen ≡ false
 apart_of s slot b sound =
-    let p1 = and_parts _ _ sound in
-    let p2 = and_parts _ _ p1.0 in
-    let p3 = and_parts _ _ p2.0 in
-    let p4 = and_parts _ _ p3.0 in
-    let l1 = and_parts _ _ p4.1 in
-    let l2 = and_parts _ _ l1.0 in
-    not-true _ l2.1
+    not-true _ (and_parts _ _ (and_parts _ _ (and_parts _ _ (and_parts _ _ (and_parts _ _ (and_parts _ _ sound).0).0).0).1).0).1
 
 -- the logs of named stores
 logs_named : (shape : Shape) (body : Body) (image : List ℕ) → (stores_named shape body image).logs ≡ map (log_part shape image) (body.active ∷ body.frozen)

@@ -1,11 +1,8 @@
 -- The rows of stores, and their map.
-use Rattle.std.proofs.Common.{◌≡◌, ℕ, ◌==◌, Bool, true, false, if◌then◌else◌, List, [], ◌∷◌, ◌++◌, map, refl, sym, ap, ◌∙◌, append_assoc, append-nil}
-use Rattle.std.specs.List.{list_any}
-use Rattle.std.proofs.lemmas.Bool.{or_parts, eq-eqb}
-use Rattle.silt_frame.specs.Rows.{StoredRow}
-use Rattle.silt_log.specs.Parts.{Part, known_rows, oldest_first, part_rows}
-use Rattle.silt_image.specs.Stores.{Stores}
-use Rattle.silt_image.specs.Meaning.{HasActive, rows_of, with_log_rows, with_new_log, with_part_rows}
+use Rattle.silt_image.proofs.Common.{◌==◌, Bool, true, false, if◌then◌else◌, sym, ap, ◌∙◌, append_assoc, append-nil, list_any, or_parts, eq-eqb, StoredRow, Part, known_rows, oldest_first, part_rows}
+use Rattle.silt_image.proofs.Common.{Stores, with_part_rows}
+use Rattle.std.proofs.Common.{◌≡◌, ℕ, List, [], ◌∷◌, ◌++◌, map, refl}
+use Rattle.silt_image.specs.Meaning.{HasActive, rows_of, with_log_rows, with_new_log}
 use Rattle.silt_image.specs.Laws.{AgainLaw, AppendLaw, NewActiveLaw, NewLogLaw, OwnRowsLaw, UnnamedLaw}
 
 -- ---- the logs
@@ -38,9 +35,7 @@ active_logs s rows other has =
     let own : Part = record { region = s.body.active; rows = rows } in
     let new : Part = record { region = s.body.active; rows = other } in
     let first : with_part_rows s.body.active other own ≡ new = takes_rows s.body.active other own (eq-eqb s.body.active s.body.active refl) in
-    ap (map (with_part_rows s.body.active other)) has.logs
-    ∙ ap (λ (p : Part). p ∷ map (with_part_rows s.body.active other) has.frozen) first
-    ∙ ap (λ (ps : List Part). new ∷ ps) (others_keep s.body.active other has.frozen has.apart)
+    cc (has.logs, others_keep s.body.active other has.frozen has.apart)
 
 -- a log with its own rows is as it was
 pub own_rows_law : OwnRowsLaw
@@ -66,9 +61,7 @@ again_part region rows other part = go (part.region == region) refl
 
 again_parts : (region : ℕ) (rows other : List StoredRow) (parts : List Part) → map (with_part_rows region other) (map (with_part_rows region rows) parts) ≡ map (with_part_rows region other) parts
 again_parts region rows other [] = refl
-again_parts region rows other (part ∷ parts) =
-    ap (λ (p : Part). p ∷ map (with_part_rows region other) (map (with_part_rows region rows) parts)) (again_part region rows other part)
-    ∙ ap (λ (ps : List Part). with_part_rows region other part ∷ ps) (again_parts region rows other parts)
+again_parts region rows other (part ∷ parts) = cc (again_part region rows other part, again_parts region rows other parts)
 
 -- of the rows in place of a log's own the last ones count
 pub again_law : AgainLaw
@@ -92,10 +85,7 @@ unfolding rows_of with_log_rows
 append_law s rows more has =
     let older : List StoredRow = s.entries ++ oldest_first (map known_rows s.hashes) in
     let frozen : List StoredRow = oldest_first (map part_rows has.frozen) in
-    ap (rows_with s) (active_logs s rows (rows ++ more) has)
-    ∙ ap (λ (l : List StoredRow). older ++ l) (sym (append_assoc frozen rows more))
-    ∙ sym (append_assoc older (frozen ++ rows) more)
-    ∙ ap (λ (l : List StoredRow). l ++ more) (sym (ap (rows_with s) has.logs))
+    cc (active_logs s rows (rows ++ more) has, append_assoc frozen rows more, append_assoc older (frozen ++ rows) more, has.logs)
 
 -- a new log has no rows
 pub new_log_law : NewLogLaw

@@ -1,22 +1,14 @@
 -- The first finding, as a search comes upon it.
-use Rattle.std.proofs.Common.{◌≡◌, ℕ, zero, suc, ◌+◌, ◌≤◌, Bool, true, not, List, [], ◌∷◌, ◌++◌, take, flat_map, length, slice_get, Some, sym, ap, ◌∙◌, arith, false}
-use Rattle.std.specs.List.{list_all, enumerate_from}
-use Rattle.std.proofs.lemmas.Bool.{and_parts, lt-ltb}
+use Rattle.silt_image.proofs.Common.{zero, suc, ◌+◌, ◌≤◌, Bool, true, not, flat_map, slice_get, ap, ◌∙◌, arith, false, list_all, enumerate_from, and_parts, Shape, has_known_kind, StoredRow, Part}
+use Rattle.silt_image.proofs.Common.{image_digests, charge_findings, charge_of, said_entry_findings, said_hash_findings, finding_if, fits_table, row_findings, Finding, Damaged, Crowded, Log, Charge}
+use Rattle.silt_image.proofs.Common.{fits_take, nothing_both, nothing_where_passes}
+use Rattle.std.proofs.Common.{◌≡◌, ℕ, List, [], ◌∷◌, ◌++◌, take, length, Some}
+use Rattle.std.proofs.lemmas.Bool.{lt-ltb}
 use Rattle.std.proofs.lemmas.List.{take-take}
 use Rattle.std.proofs.lemmas.Grind.{flat_map-append}
-use Rattle.silt_disk.specs.Layout.{Shape}
-use Rattle.silt_frame.specs.Rows.{has_known_kind, StoredRow}
-use Rattle.silt_log.specs.Parts.{Part}
-use Rattle.silt_image.specs.Stores.{image_digests}
-use Rattle.silt_image.specs.Meaning.{charge_findings, charge_of, said_entry_findings, said_hash_findings, store_findings}
-use Rattle.silt_event.specs.Findings.{finding_if}
-use Rattle.silt_log_store.specs.Findings.{fits_table, log_findings, row_findings}
+use Rattle.silt_image.specs.Meaning.{store_findings}
+use Rattle.silt_log_store.specs.Findings.{log_findings}
 use Rattle.silt_image.specs.Laws.{ChargeFoundLaw, FirstEntryLaw, FirstFinding, FirstFindingLaw, FirstSlotLaw}
-use Rattle.silt_event.specs.declared.damage.Finding.{Finding}
-use Rattle.silt_event.specs.declared.damage.Finding.TheVariants.{Damaged, Crowded}
-use Rattle.silt_event.specs.declared.place.Place.TheVariants.{Log, Charge}
-use Rattle.silt_log_store.proofs.Findings.{fits_take}
-use Rattle.silt_event.proofs.Findings.{nothing_both, nothing_where_passes}
 use Rattle.silt_image.proofs.Verdict.{verdict_of}
 
 -- the first of a list is the first of a longer one
@@ -38,9 +30,7 @@ first_row shape part k n [] row finding there known fits found = absurd (cc)
 first_row shape part k zero (first ∷ rows) row finding there known fits found =
     let same : first ≡ row = cc in
     let here : k + 0 ≡ k = omega arith in
-    let found_here : slice_get (row_findings shape part (k, first)) 0 ≡ Some finding =
-    ap (λ (r : StoredRow). slice_get (row_findings shape part (k, r)) 0) same ∙ ap (λ (j : ℕ). slice_get (row_findings shape part (j, row)) 0) (sym here) ∙ found in
-    first_of_front (row_findings shape part (k, first)) (flat_map (row_findings shape part) (enumerate_from (k + 1) rows)) finding found_here
+    first_of_front (row_findings shape part (k, first)) (flat_map (row_findings shape part) (enumerate_from (k + 1) rows)) finding (rw (same, ← here) found)
 first_row shape part k (suc n) (first ∷ rows) row finding there known fits found =
     let parts = and_parts (has_known_kind first) (list_all has_known_kind (take n rows)) known in
     let next : k + suc n ≡ k + 1 + n = omega arith in
@@ -49,18 +39,15 @@ first_row shape part k (suc n) (first ∷ rows) row finding there known fits fou
     (nothing_where_passes (has_known_kind first) (Damaged (Log part.region k)) parts.0)
     (nothing_where_passes (fits_table shape (take (k + 1) part.rows)) Crowded (fits (k + 1) (omega arith))) in
     first_behind (row_findings shape part (k, first)) (flat_map (row_findings shape part) (enumerate_from (k + 1) rows)) finding none
-    (first_row shape part (k + 1) n rows row finding there parts.1 (λ m most. fits m (omega arith)) (ap (λ (j : ℕ). slice_get (row_findings shape part (j, row)) 0) (sym next) ∙ found))
+    (first_row shape part (k + 1) n rows row finding there parts.1 (λ m most. fits m (omega arith)) (rw next at found))
 
 -- the first finding of a log
 pub first_in_log : (shape : Shape) (part : Part) (place : ℕ) (row : StoredRow) (finding : Finding) → FirstFinding shape part place row finding → slice_get (log_findings shape part) 0 ≡ Some finding
 unfolding log_findings
 first_in_log shape part place row finding first =
+    let here : 0 + place ≡ place = omega arith in
     first_row shape part 0 place part.rows row finding first.there first.known
-    (λ m most. fits_first m (omega arith))
-    (ap (λ (j : ℕ). slice_get (row_findings shape part (j, row)) 0) (let same : 0 + place ≡ place = omega arith in same) ∙ first.first)
-  where
-    fits_first : (m : ℕ) → m ≤ place → fits_table shape (take m part.rows) ≡ true
-    fits_first m most = ap (fits_table shape) (sym (take-take m place part.rows most)) ∙ fits_take shape (take place part.rows) m first.fits
+    (λ m most. cc (take-take m place part.rows (omega arith), fits_take shape (take place part.rows) m first.fits)) (rw here first.first)
 
 -- ---- in the stores
 
@@ -83,16 +70,14 @@ first_finding_law image s before after part place row finding e logs none first 
 -- and in one of a known kind without a place
 crowded_row : (shape : Shape) (part : Part) (place : ℕ) (row : StoredRow) → has_known_kind row ≡ true → fits_table shape (take (place + 1) part.rows) ≡ false
     → slice_get (row_findings shape part (place, row)) 0 ≡ Some Crowded
-crowded_row shape part place row known crowded =
-    ap (λ (b : Bool). slice_get (finding_if (not b) (Damaged (Log part.region place)) ++ finding_if (not (fits_table shape (take (place + 1) part.rows))) Crowded) 0) known
-    ∙ ap (λ (b : Bool). slice_get (finding_if (not b) Crowded) 0) crowded
+crowded_row shape part place row known crowded = cc
 
 -- the places of two lists, one behind the other
 pub places_append : (k : ℕ) (xs ys : List Part) → enumerate_from k (xs ++ ys) ≡ enumerate_from k xs ++ enumerate_from (k + length xs) ys
-places_append k [] ys = let here : k ≡ k + 0 = omega arith in ap (λ (n : ℕ). enumerate_from n ys) here
+places_append k [] ys = let here : k + 0 ≡ k = omega arith in rw here
 places_append k (x ∷ xs) ys =
     let next : k + 1 + length xs ≡ k + suc (length xs) = omega arith in
-    ap (λ (l : List (ℕ × Part)). (k, x) ∷ l) (places_append (k + 1) xs ys ∙ ap (λ (n : ℕ). enumerate_from (k + 1) xs ++ enumerate_from n ys) next)
+    cc (places_append (k + 1) xs ys)
 
 -- so is that in the first hash store that has one
 pub first_slot_law : FirstSlotLaw
@@ -107,8 +92,7 @@ first_slot_law image s before after part finding e logs hashes none found =
     let places : enumerate_from 0 s.hashes ≡ enumerate_from 0 before ++ (length before, part) ∷ enumerate_from (length before + 1) after =
     ap (enumerate_from 0) hashes ∙ places_append 0 before (part ∷ after) ∙ ap (λ (n : ℕ). enumerate_from 0 before ++ enumerate_from n (part ∷ after)) start in
     let in_hashes : slice_get all 0 ≡ Some finding =
-    ap (λ l. slice_get l 0) (ap (flat_map (said_hash_findings s.shape said)) places
-    ∙ flat_map-append (said_hash_findings s.shape said) (enumerate_from 0 before) ((length before, part) ∷ enumerate_from (length before + 1) after))
+    ap (λ l. slice_get l 0) (cc (flat_map-append (said_hash_findings s.shape said) (enumerate_from 0 before) ((length before, part) ∷ enumerate_from (length before + 1) after)))
     ∙ first_behind (flat_map (said_hash_findings s.shape said) (enumerate_from 0 before)) (own ++ rest) finding none (first_of_front own rest finding found) in
     verdict_of image s e
     ∙ first_of_front (flat_map (log_findings s.shape) s.logs ++ all ++ entries) (charge_findings s) finding

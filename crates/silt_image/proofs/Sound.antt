@@ -1,33 +1,21 @@
 -- When stores have no finding.
-use Rattle.std.proofs.Common.{◌≡◌, ℕ, zero, suc, ◌+◌, ◌≤◌, ◌==◌, Bool, true, false, nat_lt, List, [], ◌∷◌, ◌++◌, map, take, drop, flat_map, slice_get, Option}
-use Rattle.std.proofs.Common.{Some, None, refl, sym, ap, ◌∙◌, subst, arith, append_assoc, take-append-drop}
-use Rattle.std.specs.List.{enumerate_from}
+use Rattle.silt_image.proofs.Common.{zero, suc, ◌+◌, ◌≤◌, ◌==◌, Bool, true, false, nat_lt, flat_map, slice_get, sym, ap, ◌∙◌, arith, append_assoc, enumerate_from, bytes_eq, and_from}
+use Rattle.silt_image.proofs.Common.{bytes_eq-Decides, Shape, has_known_kind, StoredRow, put_count, Part, known_rows, oldest_first, part_rows, Stores, Digests, AreDigestsOf, IsSound}
+use Rattle.silt_image.proofs.Common.{charge_findings, charge_of, digest_findings, entries_digest, part_digest, said_entry_findings, said_hash, said_hash_findings, said_sorted, with_part_rows}
+use Rattle.silt_image.proofs.Common.{finding_if, hash_findings, Finding, Damaged, Place, Charge, HashDigest, SortedDigest, nothing_first, nothing_second, nothing_both, nothing_where_passes, fine_of}
+use Rattle.silt_image.proofs.Common.{of_fine}
+use Rattle.std.proofs.Common.{◌≡◌, ℕ, List, [], ◌∷◌, ◌++◌, map, take, drop, Option, Some, None, refl, subst, take-append-drop}
 use Rattle.std.specs.Option.{ForSome}
-use Rattle.std.specs.Str.{bytes_eq}
-use Rattle.std.proofs.lemmas.Bool.{and_from, ltb-false, le-ltb}
+use Rattle.std.proofs.lemmas.Bool.{ltb-false, le-ltb}
 use Rattle.std.proofs.lemmas.List.Folds.{list_all-append}
-use Rattle.std.proofs.lemmas.Slice.Eq.{bytes_eq-Decides}
-use Rattle.silt_disk.specs.Layout.{Shape}
-use Rattle.silt_frame.specs.Rows.{has_known_kind, StoredRow, put_count}
-use Rattle.silt_log.specs.Parts.{Part, known_rows, oldest_first, part_rows}
-use Rattle.silt_image.specs.Stores.{Stores}
-use Rattle.silt_manifest.specs.declared.digests.Digests.{Digests}
-use Rattle.silt_image.specs.Meaning.{AreDigestsOf, IsSound, charge_findings, charge_of, digest_findings, entries_digest, part_digest, rows_of}
-use Rattle.silt_image.specs.Meaning.{said_entry_findings, said_hash, said_hash_findings, said_sorted, store_findings, with_log_rows, with_new_log}
-use Rattle.silt_image.specs.Meaning.{with_part_rows}
-use Rattle.silt_event.specs.Findings.{finding_if}
+use Rattle.silt_image.specs.Meaning.{rows_of, store_findings, with_log_rows, with_new_log}
 use Rattle.silt_log_store.specs.Findings.{log_findings}
-use Rattle.silt_hash_store.specs.Findings.{hash_findings}
 use Rattle.silt_sorted_store.specs.Findings.{sorted_findings}
 use Rattle.silt_image.specs.Laws.{BeginningLaw, ChargeLaw, FindsNothing, FrozenLaw, LogsSoundLaw, PartsLaw, SaidLaw, TakenLaw}
-use Rattle.silt_event.specs.declared.damage.Finding.{Finding}
-use Rattle.silt_event.specs.declared.damage.Finding.TheVariants.{Damaged}
-use Rattle.silt_event.specs.declared.place.Place.{Place}
-use Rattle.silt_event.specs.declared.place.Place.TheVariants.{Charge, HashDigest, SortedDigest}
 use Rattle.silt_event.proofs.Rows.{count_law}
 use Rattle.silt_image.proofs.Rows.{keeps_rows, new_log_law, takes_rows}
-use Rattle.silt_event.proofs.Findings.{nothing_first, nothing_second, nothing_both, nothing_where_passes, passes_where_nothing}
-use Rattle.silt_log_store.proofs.Findings.{AreFine, fine_of, of_fine, fine_front}
+use Rattle.silt_event.proofs.Findings.{passes_where_nothing}
+use Rattle.silt_log_store.proofs.Findings.{AreFine, fine_front}
 
 -- ---- the digests
 

@@ -1,36 +1,22 @@
 -- When an image is good, and what it then represents.
-use Rattle.std.proofs.Common.{◌≡◌, ◌↔◌, ℕ, ◌+◌, ◌-◌, Bool, true, false, not, nat_lt, if◌then◌else◌, List, [], ◌∷◌, ◌++◌, length, take, flat_map, get_or}
-use Rattle.std.proofs.Common.{slice_get, Option, Some, None, is_some, IsSome, IsTrue, Result, Ok, Err, refl, sym, ap, ◌∙◌, arith}
-use Rattle.std.specs.List.{list_all, enumerate_from, range_with_len}
-use Rattle.std.specs.Str.{bytes_eq}
-use Rattle.std.proofs.lemmas.Bool.{and_parts, and_from}
-use Rattle.silt_disk.specs.Layout.{Shape}
+use Rattle.silt_image.proofs.Common.{◌+◌, Bool, true, false, not, nat_lt, if◌then◌else◌, flat_map, slice_get, IsTrue, sym, ap, ◌∙◌, arith, list_all, enumerate_from, range_with_len, bytes_eq}
+use Rattle.silt_image.proofs.Common.{and_parts, and_from, Shape, has_known_kind, StoredRow, put_count, first_body, long_record, manifest_found, Digests, Part, Stores, image_digests}
+use Rattle.silt_image.proofs.Common.{stores_of_current, stores_shaped, AreDigestsOf, IsSound, all_logs_fit, charge_findings, charge_of, digest_findings, entries_digest, findings_of, map_where_sound}
+use Rattle.silt_image.proofs.Common.{part_digest, rows_found, said_entry_findings, said_hash, said_hash_findings, said_sorted, finding_if, fits_table, row_findings, map_of_rows, Finding, Damaged}
+use Rattle.silt_image.proofs.Common.{Crowded, Place, Log, Hash, HashDigest, Sorted, SortedDigest, Charge, fine_of, fits_take, of_fine, nothing_both, nothing_first, nothing_second}
+use Rattle.std.proofs.Common.{◌≡◌, ◌↔◌, ℕ, ◌-◌, List, [], ◌∷◌, ◌++◌, length, take, get_or, Option, Some, None, is_some, IsSome, Result, Ok, Err, refl}
 use Rattle.silt_log.specs.Rows.{log_rows}
-use Rattle.silt_frame.specs.Rows.{has_known_kind, StoredRow, keys_of, put_count}
-use Rattle.silt_manifest.specs.Body.{first_body}
-use Rattle.silt_manifest.specs.Digests.{long_record}
-use Rattle.silt_manifest.specs.Current.{manifest_found}
-use Rattle.silt_manifest.specs.declared.digests.Digests.{Digests}
-use Rattle.silt_log.specs.Parts.{Part}
-use Rattle.silt_image.specs.Stores.{Stores, image_digests, image_stores, stores_named, stores_of_current, stores_shaped}
+use Rattle.silt_frame.specs.Rows.{keys_of}
+use Rattle.silt_image.specs.Stores.{image_stores, stores_named}
 use Rattle.silt_sorted_store.specs.State.{sorted_rows}
-use Rattle.silt_image.specs.Meaning.{AreDigestsOf, IsSound, all_logs_fit, charge_findings, charge_of, digest_findings, entries_digest, findings_of, image_fits}
-use Rattle.silt_image.specs.Meaning.{image_map, image_rows, image_stands, image_verdict, is_crowding, map_where_sound, part_digest, rows_found, rows_of}
-use Rattle.silt_image.specs.Meaning.{said_entry_findings, said_hash, said_hash_findings, said_sorted, store_findings}
+use Rattle.silt_image.specs.Meaning.{image_fits, image_map, image_rows, image_stands, image_verdict, is_crowding, rows_of, store_findings}
 use Rattle.silt_sorted_store.specs.Findings.{entry_findings, is_key_below, sorted_findings}
-use Rattle.silt_event.specs.Findings.{finding_if}
-use Rattle.silt_log_store.specs.Findings.{fits_table, log_findings, row_findings}
+use Rattle.silt_log_store.specs.Findings.{log_findings}
 use Rattle.silt_hash_store.specs.Findings.{hash_findings, is_sound_hash_slot, slot_findings}
-use Rattle.silt_event.specs.Rows.{map_of_rows}
 use Rattle.silt_image.specs.Laws.{EmptyLaw, NoStoresLaw, RowsLaw, SoundLaw, StandsLaw, VerdictLaw}
-use Rattle.silt_event.specs.declared.damage.Finding.{Finding}
-use Rattle.silt_event.specs.declared.damage.Finding.TheVariants.{Damaged, Crowded}
-use Rattle.silt_event.specs.declared.place.Place.{Place}
-use Rattle.silt_event.specs.declared.place.Place.TheVariants.{Log, Hash, HashDigest, Sorted, SortedDigest, Charge}
 use Rattle.silt_image.proofs.Named.{digests_law, whole_law}
-use Rattle.silt_log_store.proofs.Findings.{fine_of, fits_none, fits_take, of_fine}
+use Rattle.silt_log_store.proofs.Findings.{fits_none}
 use Rattle.silt_image.proofs.Sound.{finds_none, logs_sound_law, said_law}
-use Rattle.silt_event.proofs.Findings.{nothing_both, nothing_first, nothing_second}
 
 -- ---- findings
 

@@ -1,4 +1,5 @@
-use Rattle.std.proofs.Common.{rules, IsTrue, sym, ◌∙◌, arith}
+use Rattle.silt_image.proofs.Common.{IsTrue, sym, ◌∙◌, arith}
+use Rattle.std.proofs.Common.{rules}
 use Rattle.silt_image.proofs.HeaderExits.{another_length}
 use Rattle.silt_image.proofs.header.read_header.Goals as goal
 
