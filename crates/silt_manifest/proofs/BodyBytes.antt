@@ -1,10 +1,7 @@
 -- The bytes of a body, part by part.
-use Rattle.std.proofs.Common.{◌≡◌, ℕ, ◌+◌, ◌-◌, ◌*◌, ◌<◌, ◌≤◌, List, [], ◌∷◌, ◌++◌, length, take, replicate, get_or, refl, sym, ap, ◌∙◌, arith, append_assoc, append-nil}
-use Rattle.std.proofs.lemmas.List.{take_more, take_all}
+use Rattle.silt_manifest.proofs.Common.{◌≡◌, ℕ, ◌+◌, ◌-◌, ◌*◌, ◌<◌, ◌≤◌, List, [], ◌∷◌, ◌++◌, length, take, replicate, get_or, refl, sym, ap, ◌∙◌, arith, append_assoc, append-nil, take_more}
+use Rattle.silt_manifest.proofs.Common.{take_all, big_bytes, number_at, id_bytes, ids_bytes, ids_at}
 use Rattle.std.proofs.lemmas.List.FromFn.{length-map-range_with_len}
-use Rattle.byteorder.specs.Endian.{big_bytes}
-use Rattle.silt_disk.specs.Numbers.{number_at}
-use Rattle.silt_manifest.specs.Numbers.{id_bytes, ids_bytes, ids_at}
 use Rattle.silt_manifest.specs.IdList.{IsIdList, count_back, numbers_back}
 
 -- as many ids as their count
@@ -28,8 +25,7 @@ more_ids bytes new front ids at k x so_far put is inside =
     let last : id_bytes (get_or ids k 0 ∷ []) ≡ big_bytes 4 x = append-nil (big_bytes 4 (get_or ids k 0)) ∙ ap (big_bytes 4) (sym is) in
     let more : id_bytes (take (k + 1) ids) ≡ id_bytes (take k ids) ++ big_bytes 4 x =
     ap id_bytes (take_more ids k 0 inside) ∙ id_bytes-append (take k ids) (get_or ids k 0 ∷ []) ∙ ap (λ rest. id_bytes (take k ids) ++ rest) last in
-    ap (λ (n : ℕ). take n new) place ∙ put ∙ ap (λ s. s ++ big_bytes 4 x) so_far
-    ∙ append_assoc front (id_bytes (take k ids)) (big_bytes 4 x) ∙ ap (λ rest. front ++ rest) (sym more)
+    cc (append_assoc front (id_bytes (take k ids)) (big_bytes 4 x))
 
 -- the zeros follow the ids
 pub all_ids : (bytes new front ids : List ℕ) (at room : ℕ) → length ids ≤ room → take (at + 4 + 4 * length ids) bytes ≡ (front ++ big_bytes 4 (length ids))
@@ -39,9 +35,7 @@ all_ids bytes new front ids at room fits so_far put =
     let place : at + (4 + 4 * room) ≡ at + 4 + 4 * length ids + 4 * (room - length ids) = omega arith in
     let pad : List ℕ = replicate (4 * (room - length ids)) 0 in
     let whole : id_bytes (take (length ids) ids) ≡ id_bytes ids = ap id_bytes (take_all (length ids) ids (omega arith)) in
-    ap (λ (n : ℕ). take n new) place ∙ put
-    ∙ ap (λ s. s ++ pad) (so_far ∙ ap (λ s. (front ++ big_bytes 4 (length ids)) ++ s) whole ∙ append_assoc front (big_bytes 4 (length ids)) (id_bytes ids))
-    ∙ append_assoc front (big_bytes 4 (length ids) ++ id_bytes ids) pad
+    cc (append_assoc front (big_bytes 4 (length ids)) (id_bytes ids), append_assoc front (big_bytes 4 (length ids) ++ id_bytes ids) pad)
 
 -- six parts, each put behind those before it
 pub six_parts : (b1 b2 b3 b4 b5 b6 G A F H S C : List ℕ) → length b6 ≡ 120 → take 8 b1 ≡ G → take 12 b2 ≡ take 8 b1 ++ A → take 44 b3 ≡ take 12 b2

@@ -1,18 +1,10 @@
 -- The state at each exit of the call that opens a next record's commit byte.
-use Rattle.std.proofs.Common.{◌≡◌, ℕ, ◌+◌, ◌%◌, ◌≤◌, inl, inr, true, false, List, [], ◌∷◌, length, get_or, slice_range, slice_index, Some, None, refl, sym, ap, ◌∙◌, arith}
-use Rattle.std.proofs.lemmas.Bool.{cases_Bool}
-use Rattle.silt_disk.specs.Disk.{Content, LeavesOnly, Torn, ChangesWithin, Writes, Rests, size, splice}
-use Rattle.silt_disk.specs.Header.{header_of, version_of}
-use Rattle.silt_disk.specs.Layout.{slot_at}
-use Rattle.silt_disk.proofs.Images.{within_leaves, write_shows, rests_leaves, leaves_shows, sized_leaves, sized_shows, torn_splice, torn_slice_after}
-use Rattle.silt_frame.specs.Commit.{is_open}
-use Rattle.silt_manifest.specs.Body.{FitsSlot}
-use Rattle.silt_manifest.specs.Digests.{FitsDigests, long_record, record_bytes, record_of}
-use Rattle.silt_manifest.specs.Current.{slot_of, is_slot_open, record_behind, open_record, current_manifest}
-use Rattle.silt_manifest.specs.Standing.{ManifestState, IsNext, IsPrepared, IsCurrentIn, IsReady, IsCurrent, OldOrNewIsCurrent, with_current, current_record, current_slot, spare_slot}
-use Rattle.silt_manifest.specs.declared.body.Body.{Body}
-use Rattle.silt_manifest.specs.declared.digests.Digests.{Digests}
-use Rattle.silt_manifest.specs.declared.slot.SlotRecord.{SlotRecord}
+use Rattle.silt_manifest.proofs.Common.{◌≡◌, ℕ, ◌+◌, ◌%◌, ◌≤◌, inl, inr, true, false, List, [], ◌∷◌, length, get_or, slice_range, slice_index, Some, None, refl, sym, ap, ◌∙◌, arith, cases_Bool}
+use Rattle.silt_manifest.proofs.Common.{Content, LeavesOnly, Torn, ChangesWithin, Writes, Rests, size, splice, header_of, version_of, slot_at, within_leaves, write_shows, rests_leaves, leaves_shows}
+use Rattle.silt_manifest.proofs.Common.{sized_leaves, sized_shows, torn_splice, torn_slice_after, is_open, FitsSlot, FitsDigests, long_record, record_bytes, record_of, slot_of, is_slot_open}
+use Rattle.silt_manifest.proofs.Common.{record_behind, open_record, current_manifest, ManifestState, IsNext, IsPrepared, IsCurrentIn, IsReady, IsCurrent, with_current, current_record, current_slot}
+use Rattle.silt_manifest.proofs.Common.{spare_slot, Body, Digests, SlotRecord}
+use Rattle.silt_manifest.specs.Standing.{OldOrNewIsCurrent}
 use Rattle.silt_manifest.proofs.DigestTrip.{record_law}
 use Rattle.silt_manifest.proofs.SlotImages.{slot_parts, closed_record, opened_record, other_same, commit_written, version_stays}
 use Rattle.silt_manifest.proofs.SoundBodies.{long_sound}
@@ -53,7 +45,6 @@ module _ (m : ManifestState) (next : Body) (digests : Digests) (n : ℕ) (fits :
       → is_slot_open after (spare_slot m) ≡ true → (open_record after (spare_slot m) ≡ Some (long_record next digests)) × (current_manifest m.shape after ≡ Some (long_record next digests))
   new_record_is_current before after was torn opened =
       let slots = two_slots m in
-      let size = was.0 in
       let ready = was.1 in
       let room : slot_at (spare_slot m) + 461 ≤ length after = omega (arith, torn.size) in
       let bytes : slice_range after (slot_at (spare_slot m) + 1) (slot_at (spare_slot m) + 461) ≡ record_bytes next digests =
@@ -84,7 +75,6 @@ module _ (m : ManifestState) (next : Body) (digests : Digests) (n : ℕ) (fits :
       → IsCurrentIn (with_current m.shape (long_record next digests) false) (splice (slot_at (spare_slot m)) (167 ∷ []) before)
   new_is_current_in before was =
       let slots = two_slots m in
-      let size = was.0 in
       let after = splice (slot_at (spare_slot m)) (167 ∷ []) before in
       let torn : Torn (slot_at (spare_slot m)) 1 before after = torn_splice (slot_at (spare_slot m)) (167 ∷ []) before (omega arith) in
       let opened : is_slot_open after (spare_slot m) ≡ true = ap is_open (commit_written 167 (spare_slot m) before (omega arith)) in

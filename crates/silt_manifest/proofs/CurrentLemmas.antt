@@ -1,13 +1,8 @@
 -- The current record, from what the two slots hold.
-use Rattle.std.proofs.Common.{◌≡◌, ℕ, ◌+◌, ◌⊎◌, inl, inr, true, false, nat_lt, List, Option, Some, None, Ok, Err, refl, sym, ap, ◌∙◌, arith}
-use Rattle.std.proofs.lemmas.Bool.{cases_Bool, cases_eq}
-use Rattle.std.proofs.lemmas.Bool.Decides.{nat_tests}
-use Rattle.silt_disk.specs.Header.{header_of, version_of}
-use Rattle.silt_disk.specs.Layout.{Shape}
-use Rattle.silt_disk.specs.declared.header.Version.{Version}
-use Rattle.silt_manifest.specs.Current.{is_sound_record, manifest_found, open_record, record_found, current_manifest, where_found}
-use Rattle.silt_manifest.specs.declared.slot.Damage.TheVariants.{Slot}
-use Rattle.silt_manifest.specs.declared.slot.SlotRecord.{SlotRecord}
+use Rattle.silt_manifest.proofs.Common.{◌≡◌, ℕ, ◌+◌, ◌⊎◌, inl, inr, true, false, nat_lt, List, Option, Some, None, Err, refl, sym, ap, ◌∙◌, arith, cases_Bool, cases_eq, nat_tests, header_of}
+use Rattle.silt_manifest.proofs.Common.{version_of, Shape, Version, is_sound_record, manifest_found, open_record, current_manifest, where_found, Slot, SlotRecord}
+use Rattle.std.proofs.Common.{Ok}
+use Rattle.silt_manifest.specs.Current.{record_found}
 
 -- the slot 0 alone is open
 alone_first : (s : Shape) (v : Version) (b : SlotRecord) → is_sound_record s v 0 (Some b) ≡ true → record_found s v (Some b) None ≡ Ok b
@@ -34,9 +29,7 @@ newer_first s v a b sound_a sound_b newer = rw (sound_a, sound_b, newer) refl
 -- what the slots hold, and the version
 pub found_at : (s : Shape) (v : Version) (image : List ℕ) (first second : Option SlotRecord) → version_of (header_of image) ≡ v
     → open_record image 0 ≡ first → open_record image 1 ≡ second → manifest_found s image ≡ record_found s v first second
-found_at s v image first second is is_first is_second =
-    ap (λ (version : Version). record_found s version (open_record image 0) (open_record image 1)) is
-    ∙ ap (λ held. record_found s v held (open_record image 1)) is_first ∙ ap (λ held. record_found s v first held) is_second
+found_at s v image first second is is_first is_second = cc
 
 -- no record is current if a slot is damaged
 none_is_current : (s : Shape) (v : Version) (first second : Option SlotRecord) (slot : ℕ) (b : SlotRecord)

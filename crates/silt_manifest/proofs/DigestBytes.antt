@@ -1,11 +1,7 @@
 -- The bytes of digests, one after the other, and digests from bytes.
-use Rattle.std.proofs.Common.{◌≡◌, inl, inr, ℕ, ◌+◌, ◌*◌, ◌<◌, List, [], ◌++◌, length, map, take, get_or, refl, sym, ap, ◌∙◌, arith}
-use Rattle.std.specs.List.{range_with_len}
-use Rattle.std.proofs.lemmas.Bool.{cases_eq}
-use Rattle.std.proofs.lemmas.List.{flat_map_more, take_all, take_more}
-use Rattle.silt_frame.specs.declared.digest.Digest.{Digest}
-use Rattle.silt_manifest.specs.Digests.{digest_at, digest_bytes, digests_bytes, digests_of}
-use Rattle.silt_manifest.specs.declared.digests.Digests.{Digests}
+use Rattle.silt_manifest.proofs.Common.{◌≡◌, inl, inr, ℕ, ◌+◌, ◌*◌, ◌<◌, List, [], ◌++◌, length, map, take, get_or, refl, sym, ap, ◌∙◌, arith, range_with_len, cases_eq, take_all, take_more, Digest}
+use Rattle.silt_manifest.proofs.Common.{digest_at, digest_bytes, digests_bytes, digests_of, Digests}
+use Rattle.std.proofs.lemmas.List.{flat_map_more}
 
 -- one more digest is in its place
 pub more_digests : (bytes new : List ℕ) (digests : List Digest) (none : Digest) (k : ℕ) (digest : List ℕ) → take (20 * k) bytes ≡ digest_bytes (take k digests)

@@ -1,14 +1,10 @@
 -- What is written of digests is what is read.
-use Rattle.std.proofs.Common.{◌≡◌, ℕ, suc, ◌+◌, ◌-◌, ◌*◌, ◌<◌, true, nat_le, List, [], ◌∷◌, ◌++◌, length, map, take, drop, get_or, slice_range, refl, sym, ap}
-use Rattle.std.proofs.Common.{◌∙◌, arith, append_assoc, append-nil, length-append, drop_at, take_at}
-use Rattle.std.specs.List.{range_with_len}
-use Rattle.std.proofs.lemmas.Bool.Decides.{nat_tests}
-use Rattle.silt_disk.specs.Numbers.{number_at}
-use Rattle.silt_frame.specs.declared.digest.Digest.{Digest}
-use Rattle.silt_manifest.specs.Body.{FitsSlot, body_bytes, body_of, long_bit}
-use Rattle.silt_manifest.specs.Digests.{FitsDigests, RecordLaw, digest_at, digest_bytes, digests_bytes, digests_of, is_long, record_bytes}
-use Rattle.silt_manifest.specs.declared.body.Body.{Body}
-use Rattle.silt_manifest.specs.declared.digests.Digests.{Digests}
+use Rattle.silt_manifest.proofs.Common.{◌≡◌, ℕ, suc, ◌+◌, ◌-◌, ◌*◌, ◌<◌, true, nat_le, List, [], ◌∷◌, ◌++◌, length, map, take, drop, get_or, slice_range, refl, sym, ap, ◌∙◌, arith, append_assoc}
+use Rattle.silt_manifest.proofs.Common.{append-nil, length-append, range_with_len, nat_tests, number_at, Digest, FitsSlot, body_bytes, long_bit, FitsDigests, digest_at, digest_bytes, digests_bytes}
+use Rattle.silt_manifest.proofs.Common.{digests_of, is_long, record_bytes, Body, Digests}
+use Rattle.std.proofs.Common.{drop_at, take_at}
+use Rattle.silt_manifest.specs.Body.{body_of}
+use Rattle.silt_manifest.specs.Digests.{RecordLaw}
 use Rattle.silt_manifest.proofs.RoundTrip.{body_law, fitting_length, generation_field, map_same, range_on}
 
 -- a digest behind some bytes

@@ -1,16 +1,9 @@
 -- The state after the first write of a manifest.
-use Rattle.std.proofs.Common.{◌≡◌, ℕ, ◌+◌, ◌≤◌, true, false, List, [], ◌∷◌, length, slice_range, slice_index, refl, sym, ap, ◌∙◌, arith}
-use Rattle.std.proofs.lemmas.Bool.Decides.{nat_tests}
-use Rattle.silt_disk.specs.Disk.{Content, LeavesOnly, Torn, Writes, Rests, size, splice}
-use Rattle.silt_disk.specs.Header.{header_of, version_of}
-use Rattle.silt_disk.specs.Layout.{Shape, InLimits, slot_at}
-use Rattle.silt_disk.proofs.Images.{write_shows, rests_leaves, leaves_shows, sized_shows, torn_splice, torn_slice_after, splice_slice}
-use Rattle.silt_frame.specs.Commit.{is_open}
-use Rattle.silt_manifest.specs.Body.{FitsSlot, first_body, is_well_formed}
-use Rattle.silt_manifest.specs.Digests.{FitsDigests, long_record, record_bytes}
-use Rattle.silt_manifest.specs.Current.{slot_of, is_slot_open}
-use Rattle.silt_manifest.specs.Standing.{FirstIsCurrentLaw, IsFirst}
-use Rattle.silt_manifest.specs.declared.digests.Digests.{Digests}
+use Rattle.silt_manifest.proofs.Common.{◌≡◌, ℕ, ◌+◌, ◌≤◌, true, false, List, [], ◌∷◌, length, slice_range, slice_index, refl, sym, ap, ◌∙◌, arith, nat_tests, Content, LeavesOnly, Torn, Writes}
+use Rattle.silt_manifest.proofs.Common.{Rests, size, splice, header_of, version_of, Shape, InLimits, slot_at, write_shows, rests_leaves, leaves_shows, sized_shows, torn_splice, torn_slice_after}
+use Rattle.silt_manifest.proofs.Common.{splice_slice, is_open, FitsSlot, is_well_formed, FitsDigests, long_record, record_bytes, slot_of, is_slot_open, IsFirst, Digests}
+use Rattle.silt_manifest.specs.Body.{first_body}
+use Rattle.silt_manifest.specs.Standing.{FirstIsCurrentLaw}
 use Rattle.silt_manifest.proofs.DigestTrip.{length_record_bytes}
 use Rattle.silt_manifest.proofs.SlotImages.{slot_parts, commit_of, closed_record, other_same, commit_written}
 use Rattle.silt_manifest.proofs.CurrentLemmas.{alone_found}
@@ -49,7 +42,6 @@ module _ (digests : Digests) (held : FitsDigests digests) (n : ℕ) (fits : slot
   -- a change in the slot 0 leaves the slot 1 closed
   still_alone : (at count : ℕ) (before after : List ℕ) → 4096 ≤ at → at + count ≤ 8192 → IsAlone n before → Torn at count before after → IsAlone n after
   still_alone at count before after low high was torn =
-      let size = was.size in
       record {
         size = torn.size ∙ was.size;
         closed = ap (λ bytes. is_open (slice_index bytes 0)) (other_same 1 0 at count before after refl low high (omega arith) torn) ∙ was.closed;
@@ -62,7 +54,6 @@ module _ (digests : Digests) (held : FitsDigests digests) (n : ℕ) (fits : slot
   -- after the bytes
   after_bytes : (bytes : List ℕ) → length bytes ≡ 460 → bytes ≡ record_bytes first_body digests → (before : List ℕ) → IsAlone n before → HasBytes digests n (splice 4097 bytes before)
   after_bytes bytes long are before was =
-      let size = was.size in
       let now = still_alone 4097 (length bytes) before (splice 4097 bytes before) (omega arith) (omega arith) was (torn_splice 4097 bytes before (omega arith)) in
       let end : 4097 + length bytes ≡ 4557 = omega arith in
       record {
@@ -74,7 +65,6 @@ module _ (digests : Digests) (held : FitsDigests digests) (n : ℕ) (fits : slot
   -- after the commit byte
   after_commit : (before : List ℕ) → HasBytes digests n before → IsFirst digests (splice 4096 (167 ∷ []) before)
   after_commit before was =
-      let size = was.size in
       let after = splice 4096 (167 ∷ []) before in
       let torn : Torn 4096 1 before after = torn_splice 4096 (167 ∷ []) before (omega arith) in
       let now = still_alone 4096 1 before after (omega arith) (omega arith) (record { size = was.size; closed = was.closed }) torn in

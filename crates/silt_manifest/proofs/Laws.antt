@@ -1,17 +1,13 @@
 -- What keeps a record current, for a crate above to cite.
-use Rattle.std.proofs.Common.{◌≡◌, ℕ, ◌+◌, ◌<◌, ◌≤◌, false, List, Option, [], ◌∷◌, length, refl, sym, ap, ◌∙◌, inl, inr, arith, slice_index}
-use Rattle.std.proofs.lemmas.Bool.{cases_eq}
-use Rattle.silt_disk.specs.Disk.{ChangesWithin, Content, LeavesOnly, LiesOutside, Restarts, Rests, Shows, Torn, Writes, size}
-use Rattle.silt_disk.specs.Header.{header_of, version_of}
-use Rattle.silt_disk.specs.Layout.{Shape, slot_at}
-use Rattle.silt_disk.proofs.Images.{torn_slice_after, torn_slice_before, leaves_shows, restart_leaves, rests_leaves, sized_leaves, sized_shows, within_leaves, within_shows, write_shows}
-use Rattle.silt_manifest.specs.Current.{ClosedSlotLaw, OtherRecordsLaw, OtherRegionsLaw, record_behind, is_slot_open, manifest_found, open_record, current_manifest, slot_of, where_found}
-use Rattle.silt_manifest.specs.declared.digests.Digests.{Digests}
-use Rattle.silt_manifest.specs.declared.slot.SlotRecord.{SlotRecord}
-use Rattle.silt_manifest.specs.Standing.{IsFirst, IsCurrentIn, ManifestState, IsCurrent, current_slot, spare_slot}
+use Rattle.silt_manifest.proofs.Common.{◌≡◌, ℕ, ◌+◌, ◌<◌, ◌≤◌, false, List, [], ◌∷◌, length, refl, sym, ap, ◌∙◌, inl, inr, arith, slice_index, cases_eq, ChangesWithin, Content, LeavesOnly, Rests}
+use Rattle.silt_manifest.proofs.Common.{Shows, Torn, Writes, size, header_of, version_of, Shape, slot_at, torn_slice_after, torn_slice_before, rests_leaves, sized_leaves, sized_shows, within_leaves}
+use Rattle.silt_manifest.proofs.Common.{write_shows, record_behind, is_slot_open, manifest_found, open_record, slot_of, where_found, Digests, IsFirst, IsCurrentIn, ManifestState, IsCurrent}
+use Rattle.silt_manifest.proofs.Common.{current_slot, spare_slot, is_open}
+use Rattle.silt_disk.specs.Disk.{LiesOutside}
+use Rattle.silt_disk.proofs.Images.{within_shows}
+use Rattle.silt_manifest.specs.Current.{ClosedSlotLaw, OtherRecordsLaw, OtherRegionsLaw}
 use Rattle.silt_manifest.proofs.SlotImages.{commit_written, other_same, slot_same, version_stays}
 use Rattle.silt_manifest.proofs.CurrentLemmas.{found_at}
-use Rattle.silt_frame.specs.Commit.{is_open}
 
 -- two slots that hold the same, and the same version
 pub same_found : (s : Shape) (before after : List ℕ) → version_of (header_of after) ≡ version_of (header_of before)
@@ -86,14 +82,6 @@ pub current_record_elsewhere : (m : ManifestState) (at count : ℕ) (old new : C
     → LiesOutside 0 12288 at count → ChangesWithin at count old new → IsCurrent m old → IsCurrent m new
 current_record_elsewhere m at count old new fits apart changes is_current = within_leaves changes (sized_leaves is_current) (current_in_elsewhere m (size old) at count fits apart)
 
--- and after a crash
-pub current_at_restart : (m : ManifestState) (old new : Content) → Restarts old new → IsCurrent m old → IsCurrent m new
-current_at_restart m old new restarts is_current = restart_leaves restarts is_current
-
--- it is current in what is shown too
-pub current_is_shown : (m : ManifestState) (content : Content) → IsCurrent m content → Shows content (IsCurrentIn m)
-current_is_shown m content is_current = leaves_shows is_current
-
 -- a slot that was closed is closed in what is shown
 pub closed_shown : (slot : ℕ) (old new : Content) → slot_at slot + 461 ≤ size old → Writes (slot_at slot) (0 ∷ []) old new → Shows new (λ image. is_slot_open image slot ≡ false)
 closed_shown slot old new fits writes = write_shows writes (record { holds = λ honest. refl }) (λ before (long : length before ≡ size old). ap is_open (commit_written 0 slot before (omega arith)))
@@ -109,19 +97,11 @@ closed_elsewhere slot at count old new below fits apart changes shown =
     within_shows changes (sized_shows shown) (λ before after (had : (length before ≡ size old) × (is_slot_open before slot ≡ false)) torn.
     ap (λ bytes. is_open (slice_index bytes 0)) (slot_elsewhere at count slot before after below (let long = had.0 in omega arith) apart torn) ∙ had.1)
 
--- so is the current record of each possible crash image, under changes outside the header and the slots
-pub current_elsewhere : (s : Shape) (held : Option SlotRecord) (at count : ℕ) (old new : Content) → slot_at 1 + 4096 ≤ size old
-    → LiesOutside 0 12288 at count → ChangesWithin at count old new → LeavesOnly old (λ image. current_manifest s image ≡ held) → LeavesOnly new (λ image. current_manifest s image ≡ held)
-current_elsewhere s held at count old new fits apart changes leaves =
-    within_leaves changes (sized_leaves leaves) (λ before after (had : (length before ≡ size old) × (current_manifest s before ≡ held)) torn.
-    ap where_found (found_elsewhere s at count before after (let long = had.0 in omega arith) apart torn) ∙ had.1)
-
 -- and the first record
 pub first_elsewhere : {digests : Digests} (at count : ℕ) (old new : Content) → slot_at 1 + 4096 ≤ size old → LiesOutside (slot_at 0) 8192 at count
     → ChangesWithin at count old new → LeavesOnly old (IsFirst digests) → LeavesOnly new (IsFirst digests)
 first_elsewhere {digests} at count old new fits apart changes leaves =
     within_leaves changes (sized_leaves leaves) (λ before after (had : (length before ≡ size old) × IsFirst digests before) torn.
-    let long = had.0 in
     let room : slot_at 1 + 4096 ≤ length before = omega arith in
     record {
       first = other_records 0 at count before after (omega arith) room apart torn ∙ had.1.first;

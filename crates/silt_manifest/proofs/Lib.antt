@@ -1,3 +1,4 @@
+pub mod Common
 pub mod BodyBytes
 pub mod CommitExits
 pub mod DigestBytes

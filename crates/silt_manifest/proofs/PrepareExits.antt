@@ -1,16 +1,10 @@
 -- The state at each exit of the write of a next body.
-use Rattle.std.proofs.Common.{◌≡◌, ℕ, ◌+◌, ◌≤◌, inl, inr, true, false, not, List, [], ◌∷◌, length, slice_range, slice_index, Option, Some, refl, sym, ap, subst, ◌∙◌, arith}
-use Rattle.std.proofs.lemmas.Bool.{cases_Bool}
-use Rattle.silt_disk.specs.Disk.{Content, LeavesOnly, Torn, ChangesWithin, Writes, Rests, size, splice}
-use Rattle.silt_disk.specs.Layout.{Shape, slot_at}
-use Rattle.silt_disk.proofs.Images.{within_leaves, write_shows, rests_leaves, weaker_leaves, leaves_shows, sized_leaves, sized_shows, torn_splice, splice_slice}
-use Rattle.silt_frame.specs.Commit.{is_open}
-use Rattle.silt_manifest.specs.Body.{FitsSlot}
-use Rattle.silt_manifest.specs.Digests.{FitsDigests, long_record, record_bytes}
-use Rattle.silt_manifest.specs.Current.{slot_of, is_slot_open, record_behind, open_record}
-use Rattle.silt_manifest.specs.Standing.{ManifestState, IsNext, IsPrepared, IsCurrentIn, IsReady, IsCurrent, RecordIsCurrent, WritesNext, closing_place, current_record, current_slot, spare_slot}
-use Rattle.silt_manifest.specs.declared.body.Body.{Body}
-use Rattle.silt_manifest.specs.declared.digests.Digests.{Digests}
+use Rattle.silt_manifest.proofs.Common.{◌≡◌, ℕ, ◌+◌, ◌≤◌, inl, inr, true, false, not, List, [], ◌∷◌, length, slice_range, slice_index, Option, Some, refl, sym, ap, subst, ◌∙◌, arith, cases_Bool}
+use Rattle.silt_manifest.proofs.Common.{Content, LeavesOnly, Torn, ChangesWithin, Writes, Rests, size, splice, Shape, slot_at, within_leaves, write_shows, rests_leaves, leaves_shows, sized_leaves}
+use Rattle.silt_manifest.proofs.Common.{sized_shows, torn_splice, splice_slice, is_open, FitsSlot, FitsDigests, long_record, record_bytes, slot_of, is_slot_open, record_behind, open_record}
+use Rattle.silt_manifest.proofs.Common.{ManifestState, IsNext, IsPrepared, IsCurrentIn, IsReady, IsCurrent, current_record, current_slot, spare_slot, Body, Digests}
+use Rattle.silt_disk.proofs.Images.{weaker_leaves}
+use Rattle.silt_manifest.specs.Standing.{RecordIsCurrent, WritesNext, closing_place}
 use Rattle.silt_manifest.proofs.SlotImages.{closed_record, slot_same, other_same, commit_torn, commit_stays, commit_written, version_stays}
 use Rattle.silt_manifest.proofs.CurrentLemmas.{stays_current}
 
@@ -83,7 +77,6 @@ module _ (m : ManifestState) (n : ℕ) (fits : slot_at 1 + 4096 ≤ n) where
   bytes_torn : (at count : ℕ) → at ≡ slot_at (spare_slot m) + 1 → count ≡ 460 → (before after : List ℕ) → IsShut m n before → Torn at count before after → IsShut m n after
   bytes_torn at count is long before after was torn =
       let slots = two_slots m in
-      let size = was.size in
       let same : open_record after (current_slot m) ≡ open_record before (current_slot m) =
       ap record_behind (other_same (current_slot m) (spare_slot m) at count before after slots (omega arith) (omega arith) (omega arith) torn) in
       let shut : is_slot_open after (spare_slot m) ≡ false = commit_stays at count (spare_slot m) before after (omega arith) (omega arith) torn ∙ was.shut in
@@ -102,7 +95,6 @@ module _ (m : ManifestState) (n : ℕ) (fits : slot_at 1 + 4096 ≤ n) where
       → bytes ≡ record_bytes next digests → (before : List ℕ) → IsShut m n before → IsReady m next digests (splice at bytes before)
   bytes_written at bytes next digests is long bytes_are before was =
       let slots = two_slots m in
-      let size = was.size in
       let room : at + length bytes ≤ length before = omega arith in
       let after = splice at bytes before in
       let now = bytes_torn at (length bytes) is long before after was (torn_splice at bytes before room) in
@@ -146,11 +138,7 @@ pub next_written : (m : ManifestState) (place at : ℕ) (bytes : List ℕ) (next
 next_written m place at bytes next digests old between new is is_at are first second = record {
   honest = second.honest ∙ first.honest;
   shown = λ honest.
-      second.shown (first.honest ∙ honest)
-      ∙ ap (λ (image : List ℕ). splice at bytes image) (first.shown honest)
-      ∙ ap (λ (p : ℕ). splice at bytes (splice p (0 ∷ []) old.shown)) is
-      ∙ ap (λ (p : ℕ). splice p bytes (splice (closing_place m) (0 ∷ []) old.shown)) is_at
-      ∙ ap (λ (b : List ℕ). splice (slot_at (spare_slot m) + 1) b (splice (closing_place m) (0 ∷ []) old.shown)) are;
+      cc (second.shown (first.honest ∙ honest), first.shown honest);
 }
 
 -- the manifest with the next record, of this shape and with this current record, is prepared

@@ -1,20 +1,13 @@
 -- What a read of the slots means for the shown bytes.
-use Rattle.std.proofs.Common.{◌≡◌, ℕ, ◌+◌, ◌%◌, Bool, true, false, not, nat_lt, if◌then◌else◌, List, slice_index, IsTrue, Option, Some, None, Err, refl, sym}
-use Rattle.std.proofs.Common.{ap, subst, ◌∙◌, inl, inr, arith, ok_or, IfOk, IfErr}
-use Rattle.std.proofs.lemmas.Bool.{cases_Bool}
-use Rattle.silt_disk.specs.Disk.{Content, Shows, LeavesOnly, Rests}
-use Rattle.silt_disk.specs.Header.{header_of, version_of}
-use Rattle.silt_disk.specs.Layout.{Shape}
-use Rattle.silt_disk.specs.declared.header.Version.{Version}
-use Rattle.silt_disk.proofs.Images.{rests_leaves}
-use Rattle.silt_frame.specs.Commit.{is_open}
-use Rattle.silt_manifest.specs.Digests.{record_of}
-use Rattle.silt_manifest.specs.Faults.{IsDamaged, IsNotRead, IsSlotRefused, IsUnsound}
-use Rattle.silt_manifest.specs.Current.{HasSlot, record_behind, record_found, is_slot_open, is_sound_record, open_record, current_manifest, slot_of, where_found}
-use Rattle.silt_manifest.specs.Standing.{IsCurrentIn, ManifestState, manifest_of, with_current}
-use Rattle.silt_manifest.specs.declared.slot.SlotRecord.{SlotRecord}
+use Rattle.silt_manifest.proofs.Common.{◌≡◌, ℕ, ◌+◌, ◌%◌, true, false, not, nat_lt, List, slice_index, Option, Some, None, Err, refl, sym, ap, subst, ◌∙◌, inl, inr, arith, cases_Bool, Content}
+use Rattle.silt_manifest.proofs.Common.{Shows, LeavesOnly, Rests, header_of, version_of, Shape, Version, rests_leaves, is_open, record_of, IsNotRead, record_behind, is_slot_open, is_sound_record}
+use Rattle.silt_manifest.proofs.Common.{open_record, current_manifest, slot_of, where_found, IsCurrentIn, ManifestState, with_current, SlotRecord, Slot}
+use Rattle.std.proofs.Common.{Bool, if◌then◌else◌, IsTrue, ok_or, IfOk, IfErr}
+use Rattle.silt_manifest.specs.Faults.{IsDamaged, IsSlotRefused, IsUnsound}
+use Rattle.silt_manifest.specs.Current.{HasSlot, record_found}
+use Rattle.silt_manifest.specs.Standing.{manifest_of}
 use Rattle.silt_manifest.specs.declared.slot.Damage.{Damage}
-use Rattle.silt_manifest.specs.declared.slot.Damage.TheVariants.{Slot, NoSlot}
+use Rattle.silt_manifest.specs.declared.slot.Damage.TheVariants.{NoSlot}
 use Rattle.silt_manifest.specs.declared.slot.ReadFault.{ReadFault}
 use Rattle.silt_manifest.specs.declared.slot.ReadFault.TheVariants.{Damaged, Device}
 use Rattle.silt_manifest.proofs.SlotImages.{opened_record}

@@ -1,15 +1,13 @@
 -- What is written of a body is what is read.
-use Rattle.std.proofs.Common.{◌≡◌, ℕ, zero, suc, ◌+◌, ◌-◌, ◌*◌, ◌%◌, ◌^◌, ◌<◌, ◌≤◌, true, nat_lt, List, [], ◌∷◌, ◌++◌, length, map, take, drop, replicate, refl}
-use Rattle.std.proofs.Common.{sym, ap, ◌∙◌, arith, append_assoc, append-nil, length-append}
-use Rattle.std.specs.List.{range_with_len, list_all}
+use Rattle.silt_manifest.proofs.Common.{◌≡◌, ℕ, suc, ◌+◌, ◌-◌, ◌*◌, ◌%◌, ◌^◌, ◌<◌, ◌≤◌, true, nat_lt, List, [], ◌∷◌, ◌++◌, length, map, take, drop, replicate, refl, sym, ap, ◌∙◌, arith}
+use Rattle.silt_manifest.proofs.Common.{append_assoc, append-nil, length-append, range_with_len, and_parts, ltb-true, big_bytes, number_at, id_bytes, ids_bytes, ids_at, FitsSlot, body_bytes}
+use Rattle.silt_manifest.proofs.Common.{long_bit, Body}
+use Rattle.std.proofs.Common.{zero}
+use Rattle.std.specs.List.{list_all}
 use Rattle.std.proofs.lemmas.List.{drop_at, take_at, length-replicate}
-use Rattle.std.proofs.lemmas.Bool.{and_parts, ltb-true}
-use Rattle.byteorder.specs.Endian.{big_number, big_bytes}
+use Rattle.byteorder.specs.Endian.{big_number}
 use Rattle.byteorder.specs.Numbers.{big_number-reads_back, length-bytes_high_first}
-use Rattle.silt_disk.specs.Numbers.{number_at}
-use Rattle.silt_manifest.specs.Numbers.{id_bytes, ids_bytes, ids_at}
-use Rattle.silt_manifest.specs.Body.{BodyLaw, FitsSlot, body_bytes, long_bit}
-use Rattle.silt_manifest.specs.declared.body.Body.{Body}
+use Rattle.silt_manifest.specs.Body.{BodyLaw}
 
 -- a number behind some bytes
 pub number_behind : (n i x : ℕ) (pre post : List ℕ) → length pre ≡ i → x < 256 ^ n → number_at n i (pre ++ (big_bytes n x ++ post)) ≡ x
@@ -126,11 +124,9 @@ body_law b commit rest fits =
     let generation : number_at 8 1 slot % long_bit ≡ b.generation = ap (λ (n : ℕ). n % long_bit) field ∙ without_bit b.generation fits.generation in
     let active : number_at 4 9 slot ≡ b.active = big_number-reads_back 4 b.active [] fits.active in
     let frozen : ids_at 13 slot ≡ b.frozen = ap (ids_at 13) whole ∙ ids_at_behind 7 b.frozen 13 (front commit b) (H ++ (S ++ (C ++ rest))) refl (let h = fits.frozen_count in omega arith) fits.frozen in
-    let hashed : ids_at 45 slot ≡ b.hashed = ap (ids_at 45) (whole ∙ to_hashed)
-    ∙ ids_at_behind 16 b.hashed 45 (front commit b ++ F) (S ++ (C ++ rest)) len_f (let h = fits.hashed_count in omega arith) fits.hashed in
+    let hashed : ids_at 45 slot ≡ b.hashed = cc (ids_at_behind 16 b.hashed 45 (front commit b ++ F) (S ++ (C ++ rest)) len_f (let h = fits.hashed_count in omega arith) fits.hashed) in
     let sorted : number_at 4 113 slot ≡ b.sorted = ap (number_at 4 113) (whole ∙ to_hashed ∙ to_sorted) ∙ number_behind 4 113 b.sorted ((front commit b ++ F) ++ H) (C ++ rest) len_h fits.sorted in
-    let count : number_at 4 117 slot ≡ b.sorted_count = ap (number_at 4 117) (whole ∙ to_hashed ∙ to_sorted ∙ to_count)
-    ∙ number_behind 4 117 b.sorted_count (((front commit b ++ F) ++ H) ++ S) rest len_s fits.sorted_count in
+    let count : number_at 4 117 slot ≡ b.sorted_count = cc (number_behind 4 117 b.sorted_count (((front commit b ++ F) ++ H) ++ S) rest len_s fits.sorted_count) in
     record_same generation active frozen hashed sorted count
   where
     record_same : {a c e f : ℕ} {xs ys : List ℕ} → a ≡ b.generation → c ≡ b.active → xs ≡ b.frozen → ys ≡ b.hashed → e ≡ b.sorted → f ≡ b.sorted_count

@@ -1,15 +1,10 @@
 -- What a change in one slot leaves of the slots.
-use Rattle.std.proofs.Common.{◌≡◌, ℕ, ◌+◌, ◌-◌, ◌<◌, ◌≤◌, ◌⊎◌, inl, inr, true, false, List, [], ◌∷◌, length, take, drop, get_or, slice_range, slice_index, Some, None, refl, sym, ap, ◌∙◌, arith}
+use Rattle.silt_manifest.proofs.Common.{◌≡◌, ℕ, ◌+◌, ◌-◌, ◌<◌, ◌≤◌, ◌⊎◌, inl, inr, true, false, List, [], ◌∷◌, length, drop, get_or, slice_range, slice_index, Some, None, refl, sym, ap, ◌∙◌, arith}
+use Rattle.silt_manifest.proofs.Common.{cases_Bool, cases_eq, nat_tests, Torn, splice, header_of, version_of, slot_at, torn_slice_before, torn_slice_after, torn_splice, is_open, record_of, slot_of}
+use Rattle.silt_manifest.proofs.Common.{is_slot_open, open_record}
 use Rattle.std.proofs.lemmas.List.{drop_more}
-use Rattle.std.proofs.lemmas.Bool.{cases_Bool, cases_eq}
-use Rattle.std.proofs.lemmas.Bool.Decides.{nat_tests}
-use Rattle.silt_disk.specs.Disk.{Torn, splice}
-use Rattle.silt_disk.specs.Header.{header_of, version_of}
-use Rattle.silt_disk.specs.Layout.{slot_at}
-use Rattle.silt_disk.proofs.Images.{torn_slice_before, torn_slice_after, torn_splice, splice_byte}
-use Rattle.silt_frame.specs.Commit.{is_open}
-use Rattle.silt_manifest.specs.Digests.{record_of}
-use Rattle.silt_manifest.specs.Current.{slot_of, is_slot_open, record_behind, open_record}
+use Rattle.silt_disk.proofs.Images.{splice_byte}
+use Rattle.silt_manifest.specs.Current.{record_behind}
 
 -- a slot is its commit byte and the bytes behind it
 pub slot_parts : (image : List ℕ) (slot : ℕ) → slot_at slot + 461 ≤ length image → slot_of image slot ≡ get_or image (slot_at slot) 0 ∷ slice_range image (slot_at slot + 1) (slot_at slot + 461)
@@ -17,8 +12,7 @@ slot_parts image slot fits =
     let cut : drop (slot_at slot) image ≡ get_or image (slot_at slot) 0 ∷ drop (slot_at slot + 1) image = drop_more image (slot_at slot) 0 (omega arith) in
     let long : slot_at slot + 461 - slot_at slot ≡ 461 = omega arith in
     let rest : slot_at slot + 461 - (slot_at slot + 1) ≡ 460 = omega arith in
-    ap (λ (n : ℕ). take n (drop (slot_at slot) image)) long ∙ ap (take 461) cut
-    ∙ sym (ap (λ (n : ℕ). get_or image (slot_at slot) 0 ∷ take n (drop (slot_at slot + 1) image)) rest)
+    cc
 
 -- its first byte is the commit byte
 pub commit_of : (image : List ℕ) (slot : ℕ) → slot_at slot + 461 ≤ length image → slice_index (slot_of image slot) 0 ≡ get_or image (slot_at slot) 0
@@ -69,8 +63,7 @@ commit_torn slot before after fits torn opened =
       | inl still ↦
           let is : get_or after (slot_at slot) 0 ≡ 167 = sym (commit_of after slot fits_after) ∙ open_commit _ still in
           let same : slot_of after slot ≡ slot_of before slot =
-          slot_parts after slot fits_after ∙ ap (λ (commit : ℕ). commit ∷ slice_range after (slot_at slot + 1) (slot_at slot + 461)) (is ∙ sym was)
-          ∙ ap (λ (rest : List ℕ). get_or before (slot_at slot) 0 ∷ rest) behind ∙ sym (slot_parts before slot fits) in
+          cc (slot_parts after slot fits_after, slot_parts before slot fits) in
           inr (ap record_behind same)
       | inr closed ↦ inl (closed_record (slot_of after slot) closed)
     ]
@@ -85,9 +78,7 @@ pub commit_written : (commit slot : ℕ) (before : List ℕ) → slot_at slot + 
 commit_written commit slot before fits =
     let torn = torn_splice (slot_at slot) (commit ∷ []) before (omega arith) in
     let place : slot_at slot ≡ slot_at slot + 0 = omega arith in
-    commit_of (splice (slot_at slot) (commit ∷ []) before) slot (omega (arith, torn.size))
-    ∙ ap (λ (n : ℕ). get_or (splice (slot_at slot) (commit ∷ []) before) n 0) place
-    ∙ splice_byte (slot_at slot) (commit ∷ []) before 0 (omega arith) (omega arith)
+    cc (commit_of (splice (slot_at slot) (commit ∷ []) before) slot (omega (arith, torn.size)), splice_byte (slot_at slot) (commit ∷ []) before 0 (omega arith) (omega arith))
 
 -- a change in a slot leaves the version in the header
 pub version_stays : (at count : ℕ) (before after : List ℕ) → 4096 ≤ at → 4096 ≤ length before → Torn at count before after → version_of (header_of after) ≡ version_of (header_of before)

@@ -1,14 +1,10 @@
 -- What a body that is well formed has, and a record that is sound.
-use Rattle.std.proofs.Common.{◌≡◌, ℕ, ◌%◌, ◌^◌, ◌<◌, ◌≤◌, ◌⊎◌, ◌==◌, inl, inr, true, false, nat_lt, nat_le, List, [], ◌∷◌, length, Some, refl, ap, ◌∙◌, arith, is_some}
-use Rattle.std.proofs.lemmas.Bool.{cases_Bool, and_parts, ltb-true}
-use Rattle.std.proofs.lemmas.Bool.Decides.{nat_tests}
-use Rattle.silt_disk.specs.Layout.{Shape, InLimits}
-use Rattle.silt_disk.specs.declared.header.Version.{Version}
+use Rattle.silt_manifest.proofs.Common.{◌≡◌, ℕ, ◌%◌, ◌^◌, ◌<◌, ◌≤◌, ◌⊎◌, inl, inr, true, false, nat_lt, nat_le, List, [], ◌∷◌, length, Some, refl, ap, ◌∙◌, arith, cases_Bool, and_parts, ltb-true}
+use Rattle.silt_manifest.proofs.Common.{nat_tests, Shape, InLimits, Version, FitsSlot, is_well_formed, is_sound_record, Body, SlotRecord}
+use Rattle.std.proofs.Common.{◌==◌, is_some}
 use Rattle.silt_disk.specs.declared.header.Version.TheVariants.{One, Two}
-use Rattle.silt_manifest.specs.Body.{FitsSlot, all_below, is_well_formed}
-use Rattle.silt_manifest.specs.Current.{has_due_digests, is_sound_record}
-use Rattle.silt_manifest.specs.declared.body.Body.{Body}
-use Rattle.silt_manifest.specs.declared.slot.SlotRecord.{SlotRecord}
+use Rattle.silt_manifest.specs.Body.{all_below}
+use Rattle.silt_manifest.specs.Current.{has_due_digests}
 
 -- the numbers of a body that is well formed
 pub record SoundParts (s : Shape) (slot : ℕ) (b : Body) : Type 0 where
@@ -74,8 +70,7 @@ all_below_more low high [] more below = refl
 all_below_more low high (id ∷ ids) more below =
     let parts = and_parts (nat_lt id low) (all_below low ids) below in
     let first : nat_lt id high ≡ true = grind (arith, nat_tests) in
-    let rest = all_below_more low high ids more parts.1 in
-    rw (first, rest) refl
+    rw (first, (all_below_more low high ids more parts.1)) refl
 
 -- within the limits its numbers fit the fields of a slot
 pub fits_slot : (s : Shape) (slot : ℕ) (b : Body) → InLimits s → is_well_formed s slot b ≡ true → FitsSlot b

@@ -1,4 +1,4 @@
-use Rattle.std.proofs.Common.{length}
+use Rattle.silt_manifest.proofs.Common.{length}
 use Rattle.silt_manifest.proofs.body.+are_distinct.Given as goal
 
 abbrev pub decreases-are_distinct : goal.decreases-are_distinct

@@ -1,5 +1,4 @@
-use Rattle.std.proofs.Common.{rules, ◌≡◌, ◌++◌, length, take, arith}
-use Rattle.byteorder.specs.Endian.{big_bytes}
+use Rattle.silt_manifest.proofs.Common.{rules, ◌≡◌, ◌++◌, length, take, arith, big_bytes}
 use Rattle.silt_manifest.proofs.BodyBytes.{more_ids, all_ids}
 use Rattle.silt_manifest.proofs.body.put_ids.Goals as goal
 

@@ -1,6 +1,4 @@
-use Rattle.std.proofs.Common.{◌≡◌, ◌+◌, ◌*◌, ◌++◌, length, take}
-use Rattle.byteorder.specs.Endian.{big_bytes}
-use Rattle.silt_manifest.specs.Numbers.{id_bytes}
+use Rattle.silt_manifest.proofs.Common.{◌≡◌, ◌+◌, ◌*◌, ◌++◌, length, take, big_bytes, id_bytes}
 use Rattle.silt_manifest.proofs.body.put_ids.Given as goal
 
 abbrev pub invariant-loop-k : goal.invariant-loop-k

@@ -1,7 +1,5 @@
-use Rattle.std.proofs.Common.{rules}
-use Rattle.silt_disk.specs.Disk.{GaveAny, Shows, Rests}
-use Rattle.silt_manifest.specs.Standing.{IsCurrentIn, IsCurrent}
-use Rattle.silt_manifest.specs.Faults.{IsNotRead}
+use Rattle.silt_manifest.proofs.Common.{rules, Shows, Rests, IsCurrentIn, IsCurrent, IsNotRead}
+use Rattle.silt_disk.specs.Disk.{GaveAny}
 use Rattle.silt_manifest.proofs.ReadExits.{first_refused, second_refused, none_refused, slots_are_current, rest_is_current, where_some, where_none}
 use Rattle.silt_manifest.proofs.manifest.read_current.Goals as goal
 

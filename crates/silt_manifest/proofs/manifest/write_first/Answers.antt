@@ -1,8 +1,4 @@
-use Rattle.std.proofs.Common.{ap, rules, arith, subst, sym, ◌∙◌}
-use Rattle.silt_disk.specs.Layout.{slot_at}
-use Rattle.silt_disk.proofs.Wrote.{wrote_err, wrote_ok, wrote_then, wrote_wider}
-use Rattle.silt_manifest.specs.Body.{FitsSlot}
-use Rattle.silt_manifest.specs.Digests.{record_bytes}
+use Rattle.silt_manifest.proofs.Common.{ap, rules, arith, subst, sym, ◌∙◌, slot_at, wrote_err, wrote_ok, wrote_then, wrote_wider, FitsSlot, record_bytes}
 use Rattle.silt_manifest.proofs.FirstExits.{all_first, first_fits}
 use Rattle.silt_manifest.proofs.manifest.write_first.Goals as goal
 

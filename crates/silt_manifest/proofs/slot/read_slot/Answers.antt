@@ -1,4 +1,4 @@
-use Rattle.std.proofs.Common.{rules}
+use Rattle.silt_manifest.proofs.Common.{rules}
 use Rattle.silt_manifest.proofs.ReadExits.{reads_held, reads_damage}
 use Rattle.silt_manifest.proofs.slot.read_slot.Goals as goal
 

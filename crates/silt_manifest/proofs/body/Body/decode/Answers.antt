@@ -1,5 +1,4 @@
-use Rattle.std.proofs.Common.{◌<◌, ◌-◌, inl, inr, arith}
-use Rattle.silt_disk.specs.Numbers.{number_at}
+use Rattle.silt_manifest.proofs.Common.{◌<◌, ◌-◌, inl, inr, arith, number_at}
 use Rattle.silt_manifest.proofs.BodyBytes.{length_ids_at}
 use Rattle.silt_manifest.proofs.body.Body.decode.Goals as goal
 

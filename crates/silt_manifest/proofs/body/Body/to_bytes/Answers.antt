@@ -1,7 +1,4 @@
-use Rattle.std.proofs.Common.{rules, ◌+◌, ◌++◌, take, ap, ◌∙◌}
-use Rattle.byteorder.specs.Endian.{big_bytes}
-use Rattle.silt_manifest.specs.Body.{long_bit}
-use Rattle.silt_manifest.specs.Numbers.{ids_bytes}
+use Rattle.silt_manifest.proofs.Common.{rules, ◌+◌, ◌++◌, take, ap, ◌∙◌, big_bytes, long_bit, ids_bytes}
 use Rattle.silt_manifest.proofs.BodyBytes.{six_parts}
 use Rattle.silt_manifest.proofs.body.Body.to_bytes.Goals as goal
 

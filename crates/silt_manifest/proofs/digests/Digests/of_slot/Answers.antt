@@ -1,9 +1,4 @@
-use Rattle.std.proofs.Common.{ℕ, ◌+◌, ◌*◌, ◌++◌, [], ◌∷◌, sym, ap, ◌∙◌, map, arith}
-use Rattle.std.specs.List.{range_with_len}
-use Rattle.std.proofs.lemmas.List.{take_more_set, length-set}
-use Rattle.std.proofs.lemmas.List.FromFn.{map-range_with_len_more}
-use Rattle.silt_frame.specs.declared.digest.Digest.{Digest}
-use Rattle.silt_manifest.specs.Digests.{digest_at}
+use Rattle.silt_manifest.proofs.Common.{ℕ, ◌+◌, ◌*◌, ◌++◌, [], ◌∷◌, sym, ap, ◌∙◌, map, arith, range_with_len, take_more_set, length-set, map-range_with_len_more, Digest, digest_at}
 use Rattle.silt_manifest.proofs.DigestBytes.{digests_read}
 use Rattle.silt_manifest.proofs.digests.Digests.of_slot.Goals as goal
 

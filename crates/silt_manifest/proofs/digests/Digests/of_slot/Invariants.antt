@@ -1,6 +1,4 @@
-use Rattle.std.proofs.Common.{◌≡◌, ◌+◌, ◌*◌, length, take, map}
-use Rattle.std.specs.List.{range_with_len}
-use Rattle.silt_manifest.specs.Digests.{digest_at}
+use Rattle.silt_manifest.proofs.Common.{◌≡◌, ◌+◌, ◌*◌, length, take, map, range_with_len, digest_at}
 use Rattle.silt_manifest.proofs.digests.Digests.of_slot.Given as goal
 
 abbrev pub invariant-loop-k : goal.invariant-loop-k

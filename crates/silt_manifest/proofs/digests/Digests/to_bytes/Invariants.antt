@@ -1,5 +1,4 @@
-use Rattle.std.proofs.Common.{◌≡◌, ◌*◌, ◌<◌, ℕ, get_or, length, take}
-use Rattle.silt_manifest.specs.Digests.{digest_bytes}
+use Rattle.silt_manifest.proofs.Common.{◌≡◌, ◌*◌, ◌<◌, ℕ, get_or, length, take, digest_bytes}
 use Rattle.silt_manifest.proofs.digests.Digests.to_bytes.Given as goal
 
 abbrev pub invariant-loop-k : goal.invariant-loop-k

@@ -1,7 +1,5 @@
-use Rattle.std.proofs.Common.{ℕ, ◌+◌, ◌*◌, ◌∙◌, arith}
-use Rattle.std.proofs.lemmas.List.{take_more_set, length-set, get_or-set_other}
-use Rattle.std.proofs.lemmas.List.FromFn.{map-range_with_len_more}
-use Rattle.silt_disk.specs.Numbers.{number_at}
+use Rattle.silt_manifest.proofs.Common.{ℕ, ◌+◌, ◌*◌, ◌∙◌, arith, take_more_set, length-set, map-range_with_len_more, number_at}
+use Rattle.std.proofs.lemmas.List.{get_or-set_other}
 use Rattle.silt_manifest.proofs.ids.Ids.read.Goals as goal
 
 pub loop-k-preserved : goal.loop-k-preserved

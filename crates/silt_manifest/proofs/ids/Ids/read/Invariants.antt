@@ -1,6 +1,4 @@
-use Rattle.std.proofs.Common.{◌≡◌, ℕ, ◌+◌, ◌*◌, ◌≤◌, length, take, map, get_or}
-use Rattle.std.specs.List.{range_with_len}
-use Rattle.silt_disk.specs.Numbers.{number_at}
+use Rattle.silt_manifest.proofs.Common.{◌≡◌, ℕ, ◌+◌, ◌*◌, ◌≤◌, length, take, map, get_or, range_with_len, number_at}
 use Rattle.silt_manifest.proofs.ids.Ids.read.Given as goal
 
 abbrev pub invariant-loop-k : goal.invariant-loop-k

@@ -1,8 +1,4 @@
-use Rattle.std.proofs.Common.{rules, ◌+◌, length, refl, sym, ap, subst, ◌∙◌, arith}
-use Rattle.silt_disk.specs.Layout.{InLimits, slot_at}
-use Rattle.silt_disk.proofs.Wrote.{wrote_err, wrote_ok, wrote_then, wrote_wider}
-use Rattle.silt_manifest.specs.Body.{FitsSlot}
-use Rattle.silt_manifest.specs.Standing.{spare_slot}
+use Rattle.silt_manifest.proofs.Common.{rules, ◌+◌, length, refl, sym, ap, subst, ◌∙◌, arith, InLimits, slot_at, wrote_err, wrote_ok, wrote_then, wrote_wider, FitsSlot, spare_slot}
 use Rattle.silt_manifest.proofs.DigestTrip.{length_record_bytes}
 use Rattle.silt_manifest.proofs.SoundBodies.{fits_slot}
 use Rattle.silt_manifest.proofs.PrepareExits.{close_fails, bytes_fail, next_written, all_prepared, prepared_state}

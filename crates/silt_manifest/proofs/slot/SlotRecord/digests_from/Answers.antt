@@ -1,5 +1,4 @@
-use Rattle.std.proofs.Common.{true, Some, ap, sym, ◌≡◌, ◌∙◌}
-use Rattle.silt_manifest.specs.Digests.{is_long}
+use Rattle.silt_manifest.proofs.Common.{true, Some, ap, sym, ◌≡◌, ◌∙◌, is_long}
 use Rattle.silt_manifest.proofs.slot.SlotRecord.digests_from.Goals as goal
 
 pub returns-then-is_long : goal.returns-then-is_long
