@@ -1,8 +1,7 @@
 -- A write after a sync.
-use Rattle.std.proofs.Common.{◌≡◌, ℕ, List, sym, ap, subst, ◌∙◌, inl, inr}
-use Rattle.silt_disk.specs.Disk.{Content, Torn, ChangesWithin, Writes, Settles, Stays, splice}
+use Rattle.silt_log.proofs.Common.{◌≡◌, ℕ, List, sym, ap, subst, ◌∙◌, inl, inr, Content, Torn, ChangesWithin, Writes, splice, SyncsAndTears}
+use Rattle.silt_disk.specs.Disk.{Settles, Stays}
 use Rattle.silt_disk.proofs.Images.{left_after_sync, left_after_failed_sync, torn_refl}
-use Rattle.silt_log.specs.Calls.{SyncsAndTears}
 
 -- the sync failed
 pub not_begun : (at count : ℕ) (old new : Content) → Stays old new → SyncsAndTears at count old new

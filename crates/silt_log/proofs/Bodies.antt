@@ -1,11 +1,9 @@
 -- The rows in the bodies of a log.
-use Rattle.std.proofs.Common.{◌≡◌, ℕ, zero, suc, ◌+◌, ◌*◌, ◌≤◌, ◌<◌, List, ◌∷◌, ◌++◌, length, map, slice_range, refl, sym, ap, ◌∙◌, arith}
-use Rattle.std.specs.List.{range_with_len}
-use Rattle.silt_disk.specs.Disk.{Torn, splice}
-use Rattle.silt_disk.proofs.Images.{torn_slice_before, torn_slice_after, splice_slice}
+use Rattle.silt_log.proofs.Common.{◌≡◌, ℕ, ◌+◌, ◌*◌, ◌≤◌, ◌<◌, List, ◌++◌, length, map, refl, sym, ap, ◌∙◌, arith, range_with_len, Torn, splice, torn_slice_before, torn_slice_after, body_row}
+use Rattle.silt_log.proofs.Common.{row_of}
+use Rattle.std.proofs.Common.{zero, suc}
+use Rattle.silt_disk.proofs.Images.{splice_slice}
 use Rattle.silt_disk.proofs.Regions.{next_region}
-use Rattle.silt_log.specs.Rows.{body_row}
-use Rattle.silt_frame.specs.Rows.{row_of}
 
 -- a list made of numbers from a place on, in two parts
 pub range_split : {X : Type 0} (f : ℕ → X) (from a b : ℕ) → map f (range_with_len from (a + b)) ≡ map f (range_with_len from a) ++ map f (range_with_len (from + a) b)
@@ -16,8 +14,7 @@ range_split f from zero b =
 range_split f from (suc a) b =
     let one_more : suc a + b ≡ suc (a + b) = omega arith in
     let further : from + 1 + a ≡ from + suc a = omega arith in
-    ap (λ n. map f (range_with_len from n)) one_more
-    ∙ ap (λ rest. f from ∷ rest) (range_split f (from + 1) a b ∙ ap (λ n. map f (range_with_len (from + 1) a) ++ map f (range_with_len n b)) further)
+    cc (range_split f (from + 1) a b)
 
 -- two functions that agree on these numbers make one list of them
 pub map_range_same : {X : Type 0} (f h : ℕ → X) (from n : ℕ) → ((place : ℕ) → from ≤ place → place < from + n → f place ≡ h place) → map f (range_with_len from n) ≡ map h (range_with_len from n)
@@ -54,5 +51,4 @@ module _ (bodies len : ℕ) where
       → body_row bodies len (splice (bodies + used * len) bytes old) used ≡ row_of bytes
   row_written old bytes used count room long fits =
       let inside : bodies + used * len + len ≤ bodies + count * len = body_before used count room in
-      ap (λ n. row_of (slice_range (splice (bodies + used * len) bytes old) (bodies + used * len) (bodies + used * len + n))) (sym long)
-      ∙ ap row_of (splice_slice (bodies + used * len) bytes old (omega (arith, long, inside, fits)))
+      cc (splice_slice (bodies + used * len) bytes old (omega (arith, long, inside, fits)))

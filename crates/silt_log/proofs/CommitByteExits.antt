@@ -1,17 +1,12 @@
 -- The state at each exit of the calls that write all commit bytes of a log or those of the waiting rows.
-use Rattle.std.proofs.Common.{◌≡◌, ℕ, ◌+◌, ◌-◌, ◌≤◌, ◌<◌, false, IsTrue, List, [], ◌++◌, length, map, get_or, replicate, refl, sym, ap, ◌∙◌, subst, inl, inr, arith}
-use Rattle.std.specs.List.{prefix_len, range_with_len}
-use Rattle.std.proofs.lemmas.Bool.{false≢true}
-use Rattle.std.proofs.lemmas.List.{get_or-replicate, length-replicate, append-nil}
-use Rattle.std.proofs.lemmas.List.FromFn.{take-map-range_with_len, length-map-range_with_len}
-use Rattle.silt_disk.specs.Disk.{Content, Torn, LeavesOnly, Writes, Rests, size, splice}
-use Rattle.silt_disk.specs.Layout.{row_len, commits_at, bodies_at, device_size}
-use Rattle.silt_disk.proofs.Images.{shown_left, rests_leaves, splice_byte}
-use Rattle.silt_frame.specs.Commit.{is_open}
-use Rattle.silt_log.specs.Rows.{commit_bytes, body_row, rows_from, first_rows, row_at, log_rows, open_count}
-use Rattle.silt_frame.specs.Rows.{StoredRow}
-use Rattle.silt_log.specs.State.{LogState, InBounds, IsLog, settled_rows, all_rows, opened_image}
-use Rattle.silt_log.specs.Calls.{SyncsAndTears, Empties, OpensCommits, OpensSome, HasBeginning}
+use Rattle.silt_log.proofs.Common.{◌≡◌, ℕ, ◌+◌, ◌-◌, ◌≤◌, ◌<◌, false, IsTrue, List, [], ◌++◌, length, map, get_or, replicate, refl, sym, ap, ◌∙◌, subst, inl, inr, arith, prefix_len, range_with_len}
+use Rattle.silt_log.proofs.Common.{false≢true, get_or-replicate, length-replicate, append-nil, length-map-range_with_len, Content, Torn, LeavesOnly, Writes, Rests, size, splice, row_len, commits_at}
+use Rattle.silt_log.proofs.Common.{bodies_at, device_size, shown_left, rests_leaves, splice_byte, is_open, commit_bytes, body_row, StoredRow, LogState, InBounds, IsLog, settled_rows, all_rows}
+use Rattle.silt_log.proofs.Common.{SyncsAndTears, OpensCommits}
+use Rattle.std.proofs.lemmas.List.FromFn.{take-map-range_with_len}
+use Rattle.silt_log.specs.Rows.{rows_from, first_rows, row_at, log_rows, open_count}
+use Rattle.silt_log.specs.State.{opened_image}
+use Rattle.silt_log.specs.Calls.{Empties, OpensSome, HasBeginning}
 use Rattle.silt_log.proofs.Bodies.{range_split}
 use Rattle.silt_log.proofs.Splices.{spliced_over}
 use Rattle.silt_log.proofs.Standing.{Stands, commits_torn_rows, commits_spliced, commits_torn, commits_within}

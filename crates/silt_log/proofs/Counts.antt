@@ -1,13 +1,10 @@
 -- How many commit bytes are open before the first closed one.
-use Rattle.std.proofs.Common.{◌≡◌, ℕ, ◌+◌, ◌-◌, ◌≤◌, ◌<◌, true, false, List, length, drop, get_or, sym, ap, ◌∙◌, inl, inr, arith, length-drop, get_or-drop}
-use Rattle.std.specs.List.{prefix_len, list_any}
-use Rattle.std.proofs.lemmas.Bool.{cases_lt, cases_order, cases_Bool, false≢true}
-use Rattle.std.proofs.lemmas.List.Edits.{length-between, get_or-between}
+use Rattle.silt_log.proofs.Common.{◌≡◌, ℕ, ◌+◌, ◌-◌, ◌≤◌, ◌<◌, true, false, List, length, drop, get_or, sym, ap, ◌∙◌, inl, inr, arith, length-drop, prefix_len, list_any, cases_lt, cases_Bool}
+use Rattle.silt_log.proofs.Common.{false≢true, length-between, get_or-between, Torn, is_open, CommitsAre, commit_bytes}
+use Rattle.std.proofs.Common.{get_or-drop}
+use Rattle.std.proofs.lemmas.Bool.{cases_order}
 use Rattle.std.proofs.lemmas.List.Folds.{list_any_at}
 use Rattle.std.proofs.lemmas.List.Sums.{prefix_len-le-length, prefix_len_passes, prefix_len_stops}
-use Rattle.silt_disk.specs.Disk.{Torn}
-use Rattle.silt_frame.specs.Commit.{is_open}
-use Rattle.silt_log.specs.Rows.{CommitsAre, commit_bytes}
 
 -- equal places have the same byte
 pub same_byte : (image : List ℕ) (a b : ℕ) → a ≡ b → get_or image a 0 ≡ get_or image b 0

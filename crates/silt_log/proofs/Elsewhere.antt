@@ -1,16 +1,14 @@
 -- For the crates above: what calls on other parts of the disk leave of a log, and how its rows make one list.
-use Rattle.std.proofs.Common.{◌≡◌, ℕ, ◌+◌, ◌-◌, ◌*◌, ◌≤◌, ◌<◌, ◌⊎◌, IsTrue, List, ◌++◌, length, map, get_or, refl, sym, ap, ◌∙◌, subst, inl, inr, arith}
-use Rattle.std.specs.List.{range_with_len, prefix_len}
-use Rattle.silt_disk.specs.Disk.{ChangesWithin, Content, LeavesOnly, LiesOutside, Restarts, Settles, Stays, Torn, size}
-use Rattle.silt_disk.specs.Layout.{Shape, bodies_at, device_size, commits_at, log_len, log_size, row_len}
-use Rattle.silt_disk.proofs.Images.{shown_left, torn_slice_before, within_leaves, within_wider, sync_within, failed_sync_within, torn_slice_after}
+use Rattle.silt_log.proofs.Common.{◌≡◌, ℕ, ◌+◌, ◌-◌, ◌*◌, ◌≤◌, ◌<◌, IsTrue, List, ◌++◌, length, map, get_or, refl, sym, ap, ◌∙◌, subst, inl, inr, arith, range_with_len, prefix_len, ChangesWithin}
+use Rattle.silt_log.proofs.Common.{Content, LeavesOnly, Torn, size, Shape, bodies_at, device_size, commits_at, row_len, shown_left, torn_slice_before, within_leaves, torn_slice_after, CommitsAre}
+use Rattle.silt_log.proofs.Common.{body_at, body_row, commit_bytes, row_of, StoredRow, LogState, IsLog, settled_rows, waiting_rows, all_rows, KeepsRows, length-map-range_with_len, is_open}
+use Rattle.std.proofs.Common.{◌⊎◌}
+use Rattle.silt_disk.specs.Disk.{LiesOutside}
+use Rattle.silt_disk.specs.Layout.{log_len, log_size}
+use Rattle.silt_disk.proofs.Images.{within_wider}
 use Rattle.silt_disk.proofs.Regions.{up_least}
-use Rattle.silt_log.specs.Rows.{CommitsAre, body_at, body_row, rows_from, row_at, log_rows, open_count, commit_bytes}
-use Rattle.silt_frame.specs.Rows.{row_of, StoredRow}
-use Rattle.silt_log.specs.State.{LogState, IsLog, settled_rows, waiting_rows, all_rows}
-use Rattle.silt_log.specs.Calls.{KeepsRows}
-use Rattle.std.proofs.lemmas.List.FromFn.{length-map-range_with_len, get_or-map-range_with_len}
-use Rattle.silt_frame.specs.Commit.{is_open}
+use Rattle.silt_log.specs.Rows.{rows_from, row_at, log_rows, open_count}
+use Rattle.std.proofs.lemmas.List.FromFn.{get_or-map-range_with_len}
 use Rattle.silt_log.proofs.Counts.{count_most}
 use Rattle.silt_log.proofs.Bodies.{body_before, map_range_same, range_split, rows_behind}
 use Rattle.silt_log.proofs.Standing.{commits_within}
@@ -49,10 +47,6 @@ row_of_all content log place default below = get_or-map-range_with_len (row_at l
 -- what is shown has the settled rows
 pub shown_rows : (content : Content) (log : LogState) → IsLog content log → IsTrue content.honest → log_rows log.shape log.region content.shown ≡ settled_rows content log
 shown_rows content log is honest = is.images.each honest content.shown (shown_left content)
-
--- after a crash what is shown has the settled rows
-pub restarted_rows : (old new : Content) (log : LogState) → IsLog old log → Restarts old new → IsTrue old.honest → log_rows log.shape log.region new.shown ≡ settled_rows old log
-restarted_rows old new log is restarts honest = is.images.each honest new.shown (restarts.left honest)
 
 -- ---- a change elsewhere
 
@@ -120,14 +114,6 @@ log_elsewhere old new log at count is fits same outside changes =
       all = all;
       full = λ honest. stands.full (changes.honest ∙ honest) ∙ all honest;
     }
-
--- a sync leaves a log and its rows
-pub log_synced : (old new : Content) (log : LogState) → IsLog old log → device_size log.shape ≤ size old → size new ≡ size old → Settles old new → KeepsRows old new log log
-log_synced old new log is fits same settles = log_elsewhere old new log 0 0 is fits same (inl (omega arith)) (sync_within 0 0 settles)
-
--- so does a sync that fails
-pub log_unsynced : (old new : Content) (log : LogState) → IsLog old log → device_size log.shape ≤ size old → size new ≡ size old → Stays old new → KeepsRows old new log log
-log_unsynced old new log is fits same stays = log_elsewhere old new log 0 0 is fits same (inl (omega arith)) (failed_sync_within 0 0 stays)
 
 -- ---- the changes of a call lie in the log's region
 

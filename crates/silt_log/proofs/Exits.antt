@@ -1,16 +1,10 @@
 -- The state at each exit of the calls of a log.
-use Rattle.std.proofs.Common.{◌≡◌, ℕ, ◌+◌, ◌-◌, ◌*◌, ◌≤◌, ◌<◌, false, IsTrue, List, [], ◌∷◌, ◌++◌, length, map, refl, sym, ap, ◌∙◌, subst, arith}
-use Rattle.std.specs.List.{range_with_len}
-use Rattle.std.proofs.lemmas.Bool.{false≢true}
-use Rattle.std.proofs.lemmas.List.FromFn.{map-range_with_len_more}
-use Rattle.silt_disk.specs.Disk.{Content, LeavesOnly, ChangesWithin, Writes, size}
-use Rattle.silt_disk.specs.Layout.{Shape, row_len, commits_at, bodies_at, device_size}
-use Rattle.silt_disk.proofs.Images.{shown_left, within_leaves}
+use Rattle.silt_log.proofs.Common.{◌≡◌, ℕ, ◌+◌, ◌-◌, ◌*◌, ◌≤◌, ◌<◌, false, IsTrue, List, [], ◌∷◌, ◌++◌, length, map, refl, sym, ap, ◌∙◌, subst, arith, range_with_len, false≢true}
+use Rattle.silt_log.proofs.Common.{map-range_with_len_more, Content, LeavesOnly, ChangesWithin, Writes, size, Shape, row_len, commits_at, bodies_at, device_size, shown_left, within_leaves, body_row}
+use Rattle.silt_log.proofs.Common.{body_at, row_of, StoredRow, LogState, InBounds, IsLog, settled_rows, all_rows, KeepsRows}
 use Rattle.silt_disk.proofs.Regions.{regions_apart}
-use Rattle.silt_log.specs.Rows.{body_row, body_at, row_at, rows_from, log_rows, open_count}
-use Rattle.silt_frame.specs.Rows.{row_of, StoredRow}
-use Rattle.silt_log.specs.State.{LogState, InBounds, IsLog, settled_rows, all_rows}
-use Rattle.silt_log.specs.Calls.{Appends, KeepsRows}
+use Rattle.silt_log.specs.Rows.{row_at, rows_from, log_rows, open_count}
+use Rattle.silt_log.specs.Calls.{Appends}
 use Rattle.silt_log.proofs.Counts.{count_is}
 use Rattle.silt_log.proofs.Bodies.{body_before, rows_below, row_written}
 use Rattle.silt_log.proofs.Standing.{Lies, Stands, rows_standing, body_torn, commits_spliced, commits_within}
@@ -139,8 +133,7 @@ module _ (old new : Content) (log : LogState) (is : IsLog old log) (fits : devic
             map-range_with_len_more row 0 log.used log.used (omega arith)
             ∙ ap (λ rows. rows ++ row log.used ∷ []) (append_all honest)
             ∙ ap (λ last. all_rows old log ++ last ∷ [])
-            (ap (λ image. body_row (bodies_at log.shape log.region) (row_len log.shape) image log.used) (writes.shown honest)
-            ∙ row_written (bodies_at log.shape log.region) (row_len log.shape) old.shown bytes log.used log.shape.log_capacity room long place.inside);
+            (cc (writes.shown honest, row_written (bodies_at log.shape log.region) (row_len log.shape) old.shown bytes log.used log.shape.log_capacity room long place.inside));
       }
 
 -- the same for a row and a log under other names

@@ -1,12 +1,10 @@
 -- The heads and the whole bodies that are read.
-use Rattle.std.proofs.Common.{◌≡◌, ℕ, ◌+◌, ◌≤◌, List, length, take, drop, get_or, slice_range, sym, ap, ◌∙◌, arith, option_map}
-use Rattle.std.proofs.lemmas.List.Edits.{get_or-between}
-use Rattle.silt_disk.specs.Layout.{Shape, row_len}
-use Rattle.silt_frame.specs.Frame.{kind_of, head_of}
-use Rattle.silt_frame.specs.declared.key.Key.{Key}
 use Rattle.silt_frame.specs.declared.key.Kind.{Kind}
-use Rattle.silt_log.specs.Rows.{row_at, row_head, body_at}
-use Rattle.silt_frame.specs.Rows.{row_of}
+use Rattle.silt_frame.specs.declared.key.Key.{Key}
+use Rattle.silt_frame.specs.Frame.{kind_of}
+use Rattle.std.proofs.Common.{option_map}
+use Rattle.silt_log.proofs.Common.{◌≡◌, ℕ, ◌+◌, ◌≤◌, List, length, take, drop, get_or, slice_range, sym, ap, ◌∙◌, arith, get_or-between, Shape, row_len, head_of, body_at, row_of}
+use Rattle.silt_log.specs.Rows.{row_at, row_head}
 use Rattle.silt_log.proofs.Parts.{slice_of_slice, drop_front}
 
 -- a head that was read is that of the row

@@ -1,9 +1,5 @@
 -- Kinds and their bytes.
-use Rattle.std.proofs.Common.{◌≡◌, ℕ, cond, eqb, Some, None, inl, inr, refl, sym, ap, ◌∙◌}
-use Rattle.std.proofs.lemmas.Bool.{cases_Bool, cond-true, cond-false, eqb-true}
-use Rattle.silt_frame.specs.Frame.{kind_byte, kind_of}
-use Rattle.silt_frame.specs.declared.key.Kind.{Kind}
-use Rattle.silt_frame.specs.declared.key.Kind.TheVariants.{Put, Delete}
+use Rattle.silt_log.proofs.Common.{◌≡◌, ℕ, cond, eqb, Some, None, inl, inr, refl, sym, ap, ◌∙◌, cases_Bool, cond-true, cond-false, eqb-true, kind_byte, kind_of, Kind, Put, Delete}
 use Rattle.silt_frame.specs.Rows.{puts_of}
 
 -- the kind of a byte has this byte

@@ -1,3 +1,4 @@
+pub mod Common
 pub mod Barriers
 pub mod Bodies
 pub mod Counts

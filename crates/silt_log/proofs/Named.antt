@@ -1,8 +1,5 @@
 -- The places and counts of a log in memory, from its fields, as places and counts of the log that it represents.
-use Rattle.std.proofs.Common.{◌≡◌, ℕ, ◌+◌, ◌-◌, ◌≤◌, List, length, take, ap, ◌∙◌, arith, length-take-le}
-use Rattle.silt_disk.specs.Layout.{commits_at}
-use Rattle.silt_log.specs.Rows.{body_at}
-use Rattle.silt_log.specs.State.{LogState, IsHeld}
+use Rattle.silt_log.proofs.Common.{◌≡◌, ℕ, ◌+◌, ◌-◌, ◌≤◌, List, length, take, ap, ◌∙◌, arith, length-take-le, commits_at, body_at, LogState, IsHeld}
 
 -- the body after the rows
 pub body_place : (fields log : LogState) (at : ℕ) → fields ≡ log → at ≡ body_at log.shape log.region fields.used → at ≡ body_at log.shape log.region log.used
@@ -25,8 +22,7 @@ pub past_place : (fields log : LogState) (commits from : ℕ) → fields ≡ log
     → from ≡ fields.used + 1 → commits + from ≡ commits_at log.shape log.region + log.used + 1
 past_place fields log commits from same is first =
     let one_further : (n : ℕ) → n + (fields.used + 1) ≡ n + fields.used + 1 = λ n. omega arith in
-    ap (λ n. n + from) is ∙ ap (λ n. commits_at fields.shape fields.region + n) first ∙ one_further (commits_at fields.shape fields.region)
-    ∙ ap (λ (l : LogState). commits_at l.shape l.region + l.used + 1) same
+    cc (one_further (commits_at fields.shape fields.region))
 
 -- the buffer has each commit byte past the first closed one
 pub past_count : (fields log : LogState) (capacity : ℕ) (buffer : List ℕ) → fields ≡ log → capacity ≡ fields.shape.log_capacity

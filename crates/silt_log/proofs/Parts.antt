@@ -1,9 +1,7 @@
 -- The result of a read of a part of a body.
-use Rattle.std.proofs.Common.{◌≡◌, ℕ, ◌+◌, ◌-◌, ◌≤◌, List, length, take, drop, slice_range, sym, ap, ◌∙◌, arith, length-drop}
+use Rattle.silt_log.proofs.Common.{◌≡◌, ℕ, ◌+◌, ◌-◌, ◌≤◌, List, length, take, drop, slice_range, sym, ap, ◌∙◌, arith, length-drop, length-between, get_or-between, Shape, row_len, body_at}
 use Rattle.std.proofs.lemmas.List.{ext_get_or, get_or-drop, drop-take}
-use Rattle.std.proofs.lemmas.List.Edits.{length-between, get_or-between}
-use Rattle.silt_disk.specs.Layout.{Shape, row_len}
-use Rattle.silt_log.specs.Rows.{body_at, row_at}
+use Rattle.silt_log.specs.Rows.{row_at}
 use Rattle.silt_log.proofs.Counts.{same_byte}
 
 -- a part of a part

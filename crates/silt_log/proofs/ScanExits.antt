@@ -1,13 +1,8 @@
 -- The result of a scan.
-use Rattle.std.proofs.Common.{◌≡◌, ℕ, Bool, List, map, drop, Result, Ok, Err, sym, ap, ◌∙◌, subst, is_ok, MatchResult}
-use Rattle.std.specs.List.{prefix_len, range_with_len, list_any}
-use Rattle.std.proofs.lemmas.Bool.{false≢true}
-use Rattle.silt_disk.specs.Layout.{Shape, row_len, commits_at, bodies_at}
-use Rattle.silt_frame.specs.Commit.{is_open}
-use Rattle.silt_frame.specs.declared.key.Row.{Row}
-use Rattle.silt_log.specs.declared.scan.ScanError.{ScanError}
-use Rattle.silt_log.specs.Rows.{AreRows, FirstUnknown, commit_bytes, body_row, row_at, rows_from, log_rows, open_count, has_stale_commit}
-use Rattle.silt_log.specs.Scans.{IsScanRefused}
+use Rattle.silt_log.proofs.Common.{◌≡◌, ℕ, Bool, List, map, drop, Result, Ok, Err, sym, ap, ◌∙◌, subst, prefix_len, range_with_len, list_any, false≢true, Shape, row_len, commits_at, bodies_at}
+use Rattle.silt_log.proofs.Common.{is_open, Row, ScanError, AreRows, FirstUnknown, commit_bytes, body_row, IsScanRefused}
+use Rattle.std.proofs.Common.{is_ok, MatchResult}
+use Rattle.silt_log.specs.Rows.{row_at, rows_from, log_rows, open_count, has_stale_commit}
 use Rattle.silt_log.proofs.Scanned.{refused_weaker}
 
 -- a mapped result is Ok only if the result was

@@ -1,21 +1,12 @@
 -- The rows that a scan reads.
-use Rattle.std.proofs.Common.{cond, ◌≡◌, ℕ, ◌+◌, ◌-◌, ◌*◌, ◌≤◌, ◌<◌, true, false, List, [], ◌∷◌, ◌++◌, length, map, drop, get_or, slice_range, Some, None}
-use Rattle.std.proofs.Common.{Result, Ok, Err, eqb, inl, inr, refl, sym, ap, ◌∙◌, subst, arith, below_more, is_some, option_map, is_ok, OnOk}
-use Rattle.std.specs.List.{range_with_len}
-use Rattle.std.proofs.lemmas.Bool.{cases_Bool, cond-true, cond-false, eqb-true, false≢true}
+use Rattle.silt_log.proofs.Common.{cond, ◌≡◌, ℕ, ◌+◌, ◌-◌, ◌*◌, ◌≤◌, ◌<◌, true, false, List, [], ◌∷◌, ◌++◌, length, map, drop, get_or, slice_range, Some, None, Result, Ok, Err, eqb, inl, inr, refl}
+use Rattle.silt_log.proofs.Common.{sym, ap, ◌∙◌, subst, arith, range_with_len, cases_Bool, cond-true, cond-false, eqb-true, false≢true, map-range_with_len_more, length-map-range_with_len}
+use Rattle.silt_log.proofs.Common.{length-between, get_or-between, kind_byte, kind_of, head_of, Key, Kind, Put, Delete, Row, ScanError, IsScanRefused, AreRows, FirstUnknown, body_row}
+use Rattle.silt_log.proofs.Common.{has_known_kind, StoredRow}
+use Rattle.std.proofs.Common.{below_more, is_some, option_map, is_ok, OnOk}
 use Rattle.std.proofs.lemmas.List.{map_push, map-id, length_push}
-use Rattle.std.proofs.lemmas.List.FromFn.{map-range_with_len_more, length-map-range_with_len}
-use Rattle.std.proofs.lemmas.List.Edits.{length-between, get_or-between}
-use Rattle.silt_frame.specs.Frame.{kind_byte, kind_of, head_of}
-use Rattle.silt_frame.specs.declared.key.Key.{Key}
-use Rattle.silt_frame.specs.declared.key.Kind.{Kind}
-use Rattle.silt_frame.specs.declared.key.Kind.TheVariants.{Put, Delete}
-use Rattle.silt_frame.specs.declared.key.Row.{Row}
-use Rattle.silt_log.specs.declared.scan.ScanError.{ScanError}
 use Rattle.silt_log.specs.declared.scan.ScanError.TheVariants.{Damaged, Device, NoMemory}
-use Rattle.silt_log.specs.Scans.{IsScanRefused}
-use Rattle.silt_log.specs.Rows.{IsRow, AreRows, FirstUnknown, body_row}
-use Rattle.silt_frame.specs.Rows.{has_known_kind, StoredRow}
+use Rattle.silt_log.specs.Rows.{IsRow}
 use Rattle.silt_log.proofs.Parts.{slice_of_slice, drop_front}
 
 -- one more number
@@ -99,8 +90,7 @@ row_read bodies len place shown head kind key fits long read says =
 pub refused_weaker : {F : Type 0} (strong weak : ℕ → Type 0) (was_given : F → Type 0) (error : ScanError F) → ((place : ℕ) → strong place → weak place)
     → IsScanRefused strong was_given error → IsScanRefused weak was_given error
 refused_weaker strong weak was_given (Damaged place) step refused = step place refused
-refused_weaker strong weak was_given (Device fault) step refused = refused
-refused_weaker strong weak was_given NoMemory step refused = refused
+refused_weaker strong weak was_given error step refused = refused
 
 -- the first row of an unknown kind, if all before it are of known kinds
 pub unknown_here : (stored : ℕ → StoredRow) (count place here : ℕ) → place < count → here ≡ place → has_known_kind (stored place) ≡ false

@@ -1,15 +1,10 @@
 -- The state at each exit of a seal.
-use Rattle.std.proofs.Common.{◌≡◌, ℕ, ◌+◌, ◌-◌, ◌≤◌, ◌<◌, false, IsTrue, List, length, map, get_or, replicate, refl, sym, ap, ◌∙◌, subst, inl, inr, arith}
-use Rattle.std.specs.List.{prefix_len, range_with_len}
-use Rattle.std.proofs.lemmas.Bool.{cases_lt, false≢true}
-use Rattle.std.proofs.lemmas.List.{get_or-replicate, length-replicate}
-use Rattle.silt_disk.specs.Disk.{Content, Torn, LeavesOnly, ChangesWithin, Writes, Rests, size, splice}
-use Rattle.silt_disk.specs.Layout.{row_len, commits_at, bodies_at, device_size}
-use Rattle.silt_disk.proofs.Images.{rests_leaves, left_at_rest, torn_splice, splice_byte}
-use Rattle.silt_frame.specs.Commit.{is_open}
-use Rattle.silt_log.specs.Rows.{CommitsAre, commit_bytes, body_row, rows_from, row_at, log_rows, open_count, has_stale_commit}
-use Rattle.silt_log.specs.State.{LogState, InBounds, IsScanned, settled_rows}
-use Rattle.silt_log.specs.Calls.{Seals}
+use Rattle.silt_log.proofs.Common.{◌≡◌, ℕ, ◌+◌, ◌-◌, ◌≤◌, ◌<◌, false, IsTrue, List, length, map, get_or, replicate, refl, sym, ap, ◌∙◌, subst, inl, inr, arith, prefix_len, range_with_len, cases_lt}
+use Rattle.silt_log.proofs.Common.{false≢true, get_or-replicate, length-replicate, Content, Torn, LeavesOnly, ChangesWithin, Writes, Rests, size, splice, row_len, commits_at, bodies_at, device_size}
+use Rattle.silt_log.proofs.Common.{rests_leaves, torn_splice, splice_byte, is_open, CommitsAre, commit_bytes, body_row, LogState, InBounds, settled_rows, Seals}
+use Rattle.silt_disk.proofs.Images.{left_at_rest}
+use Rattle.silt_log.specs.Rows.{rows_from, row_at, log_rows, open_count, has_stale_commit}
+use Rattle.silt_log.specs.State.{IsScanned}
 use Rattle.silt_log.proofs.Counts.{same_byte, count_between, counted_open, first_closed, commits_counted}
 use Rattle.silt_log.proofs.Standing.{commits_torn_rows, commits_within}
 use Rattle.silt_log.proofs.Exits.{fits_resized, StandsIn, region_lies, log_from}
@@ -41,8 +36,7 @@ module _ (commits count : ℕ) (old : List ℕ) (fits : commits + count ≤ leng
               ∙ get_or-replicate more (place - (n + 1)) 0 0 (omega arith))
           | inr most ↦
               let here : place ≡ prefix_len is_open (commit_bytes commits count old) = omega arith in
-              ap is_open (torn.before (commits + place) (omega arith))
-              ∙ ap (λ k. is_open (get_or old (commits + k) 0)) here ∙ first_closed commits count old fits (omega arith)
+              cc (torn.before (commits + place) (omega arith), first_closed commits count old fits (omega arith))
         ];
       }
 

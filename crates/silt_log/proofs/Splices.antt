@@ -1,13 +1,9 @@
 -- One write after another.
-use Rattle.std.proofs.Common.{◌≡◌, ℕ, ◌+◌, ◌-◌, ◌≤◌, List, ◌++◌, length, take, drop, replicate, sym, ap, ◌∙◌, subst, inl, inr, arith, ext_get_or, append_assoc}
-use Rattle.std.proofs.Common.{length-append, length-take-le, take_at, drop_at, drop-drop}
-use Rattle.std.proofs.lemmas.Bool.{cases_lt}
-use Rattle.silt_disk.specs.Disk.{Content, Torn, ChangesWithin, Writes, size, splice}
-use Rattle.silt_disk.proofs.Images.{torn_splice, splice_byte}
-use Rattle.silt_frame.specs.Frame.{head_bytes, kind_byte}
-use Rattle.silt_frame.specs.declared.key.Key.{Key}
-use Rattle.silt_frame.specs.declared.key.Kind.{Kind}
-use Rattle.silt_frame.specs.Rows.{stored_row, row_of, StoredRow}
+use Rattle.silt_log.proofs.Common.{◌≡◌, ℕ, ◌+◌, ◌-◌, ◌≤◌, List, ◌++◌, length, take, drop, replicate, sym, ap, ◌∙◌, subst, inl, inr, arith, length-append, length-take-le, cases_lt, Content, Torn}
+use Rattle.silt_log.proofs.Common.{ChangesWithin, Writes, size, splice, torn_splice, splice_byte, Key, Kind, row_of}
+use Rattle.std.proofs.Common.{ext_get_or, append_assoc, take_at, drop_at, drop-drop}
+use Rattle.silt_frame.specs.Frame.{head_bytes}
+use Rattle.silt_frame.specs.Rows.{stored_row}
 use Rattle.silt_log.proofs.Counts.{same_byte}
 
 -- the same bytes over a range hide an earlier write there
@@ -38,9 +34,7 @@ spliced_twice at first second image fits =
     let left : drop (at + length first + length second) (front ++ rest) ≡ drop (at + length (first ++ second)) image =
     sym (drop-drop (length second) (at + length first) (front ++ rest)) ∙ ap (drop (length second)) (drop_at front rest (at + length first) long)
     ∙ drop-drop (length second) (at + length first) image ∙ ap (λ n. drop n image) (omega (arith, length-append first second)) in
-    ap (λ (l : List ℕ). l ++ second ++ drop (at + length first + length second) (front ++ rest)) kept
-    ∙ ap (λ (l : List ℕ). front ++ second ++ l) left
-    ∙ ap (λ (l : List ℕ). l ++ drop (at + length (first ++ second)) image) (append_assoc (take at image) first second)
+    cc (append_assoc (take at image) first second)
 
 -- two writes that follow each other, each with Ok
 pub both_written : (at : ℕ) (first second : List ℕ) (old between new : Content) → at + (length first + length second) ≤ size old
@@ -48,8 +42,7 @@ pub both_written : (at : ℕ) (first second : List ℕ) (old between new : Conte
 both_written at first second old between new fits writes later = record {
   honest = later.honest ∙ writes.honest;
   shown = λ honest.
-      later.shown (writes.honest ∙ honest) ∙ ap (λ (image : List ℕ). splice (at + length first) second image) (writes.shown honest)
-      ∙ spliced_twice at first second old.shown (omega arith);
+      cc (later.shown (writes.honest ∙ honest), writes.shown honest, spliced_twice at first second old.shown (omega arith));
 }
 
 -- a change of a range under another name
@@ -75,5 +68,4 @@ row_of_parts kind key head value is long =
     let here : row_of (head ++ value) ≡ row_of (head_bytes kind key ++ value) = ap (λ (l : List ℕ). row_of (l ++ value)) is in
     let front : take 20 (bytes ++ value) ≡ bytes = take_at bytes value 20 key_long in
     let back : drop 20 (bytes ++ value) ≡ value = drop_at bytes value 20 key_long in
-    here ∙ ap (λ (l : List ℕ). let row : StoredRow = record { kind = kind_byte kind; key = l; value = drop 20 (bytes ++ value) } in row) front
-    ∙ ap (λ (l : List ℕ). stored_row kind key l) back
+    cc

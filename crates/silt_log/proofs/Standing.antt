@@ -1,13 +1,6 @@
 -- Images that have the rows of a log.
-use Rattle.std.proofs.Common.{◌≡◌, ℕ, ◌+◌, ◌-◌, ◌*◌, ◌≤◌, ◌<◌, List, length, map, replicate, ap, ◌∙◌, inl, inr, arith}
-use Rattle.std.specs.List.{prefix_len, range_with_len}
-use Rattle.std.proofs.lemmas.Bool.{cases_lt}
-use Rattle.std.proofs.lemmas.List.{get_or-replicate, length-replicate}
-use Rattle.silt_disk.specs.Disk.{Torn, splice}
-use Rattle.silt_disk.proofs.Images.{torn_splice, splice_byte}
-use Rattle.silt_frame.specs.Commit.{is_open}
-use Rattle.silt_log.specs.Rows.{CommitsAre, commit_bytes, body_row}
-use Rattle.silt_frame.specs.Rows.{StoredRow}
+use Rattle.silt_log.proofs.Common.{◌≡◌, ℕ, ◌+◌, ◌-◌, ◌*◌, ◌≤◌, ◌<◌, List, length, map, replicate, ap, ◌∙◌, inl, inr, arith, prefix_len, range_with_len, cases_lt, get_or-replicate, length-replicate}
+use Rattle.silt_log.proofs.Common.{Torn, splice, torn_splice, splice_byte, is_open, CommitsAre, commit_bytes, body_row, StoredRow}
 use Rattle.silt_log.proofs.Counts.{same_byte, count_is, count_between, torn_commits}
 use Rattle.silt_log.proofs.Bodies.{rows_below, rows_behind}
 

@@ -1,7 +1,5 @@
-use Rattle.std.proofs.Common.{◌≡◌, ℕ, true, cond, Bool, vec_len, ◌+◌, sym, ap, ◌∙◌, is_ok}
-use Rattle.std.proofs.lemmas.Result.{err_from_is_err_and}
-use Rattle.silt_log.specs.Rows.{body_row}
-use Rattle.silt_frame.specs.Rows.{StoredRow}
+use Rattle.silt_log.proofs.Common.{◌≡◌, ℕ, true, cond, Bool, vec_len, ◌+◌, sym, ap, ◌∙◌, err_from_is_err_and, body_row, StoredRow}
+use Rattle.std.proofs.Common.{is_ok}
 use Rattle.silt_log.proofs.Scanned.{rows_more, known_more, refused_here, pushed_ok}
 use Rattle.silt_log.proofs.scan.read_rows.Goals as goal
 

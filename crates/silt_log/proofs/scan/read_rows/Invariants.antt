@@ -1,7 +1,4 @@
-use Rattle.std.proofs.Common.{◌≡◌, ◌<◌, ℕ, true, map, vec_len, IsTrue}
-use Rattle.std.specs.List.{range_with_len}
-use Rattle.silt_log.specs.Rows.{AreRows, body_row}
-use Rattle.silt_frame.specs.Rows.{has_known_kind}
+use Rattle.silt_log.proofs.Common.{◌≡◌, ◌<◌, ℕ, true, map, vec_len, IsTrue, range_with_len, AreRows, body_row, has_known_kind}
 use Rattle.silt_log.proofs.scan.read_rows.Given as goal
 
 abbrev pub invariant-loop-place : goal.invariant-loop-place

@@ -1,8 +1,4 @@
-use Rattle.std.proofs.Common.{rules, ◌≡◌, ◌+◌, ◌++◌, length, length-append, ap, ◌∙◌, arith}
-use Rattle.std.proofs.lemmas.Result.{err_from_is_err_and}
-use Rattle.silt_disk.specs.Layout.{row_len}
-use Rattle.silt_disk.proofs.Wrote.{wrote_at, wrote_err, wrote_ok}
-use Rattle.silt_log.specs.State.{LogState}
+use Rattle.silt_log.proofs.Common.{rules, ◌≡◌, ◌+◌, ◌++◌, length, length-append, ap, ◌∙◌, arith, err_from_is_err_and, row_len, wrote_at, wrote_err, wrote_ok, LogState}
 use Rattle.silt_log.proofs.Exits.{append_images, append_failed, append_done, appends_as}
 use Rattle.silt_log.proofs.Named.{body_place}
 use Rattle.silt_log.proofs.Splices.{within_at, writes_at, row_of_parts}

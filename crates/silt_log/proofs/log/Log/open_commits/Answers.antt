@@ -1,8 +1,4 @@
-use Rattle.std.proofs.Common.{rules, ap, sym, subst, arith}
-use Rattle.std.proofs.lemmas.Result.{err_from_is_err_and}
-use Rattle.silt_disk.proofs.Wrote.{wrote_at, wrote_err, wrote_ok}
-use Rattle.silt_log.specs.State.{LogState, IsHeld}
-use Rattle.silt_log.specs.Calls.{OpensCommits}
+use Rattle.silt_log.proofs.Common.{rules, ap, sym, subst, arith, err_from_is_err_and, wrote_at, wrote_err, wrote_ok, LogState, IsHeld, OpensCommits}
 use Rattle.silt_log.proofs.Barriers.{tears_at}
 use Rattle.silt_log.proofs.CommitByteExits.{open_failed, open_done}
 use Rattle.silt_log.proofs.Named.{waiting_place, waiting_count}

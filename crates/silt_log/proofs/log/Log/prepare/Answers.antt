@@ -1,4 +1,4 @@
-use Rattle.std.proofs.Common.{◌∙◌}
+use Rattle.silt_log.proofs.Common.{◌∙◌}
 use Rattle.silt_log.proofs.CommitByteExits.{prepare_done}
 use Rattle.silt_log.proofs.Splices.{fills_at}
 use Rattle.silt_log.proofs.log.Log.prepare.Goals as goal

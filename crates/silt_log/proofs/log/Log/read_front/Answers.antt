@@ -1,4 +1,4 @@
-use Rattle.std.proofs.Common.{arith, ◌∙◌}
+use Rattle.silt_log.proofs.Common.{arith, ◌∙◌}
 use Rattle.silt_log.proofs.Heads.{front_read, front_value}
 use Rattle.silt_log.proofs.log.Log.read_front.Goals as goal
 

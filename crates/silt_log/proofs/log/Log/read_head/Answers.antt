@@ -1,4 +1,4 @@
-use Rattle.std.proofs.Common.{arith, ◌∙◌}
+use Rattle.silt_log.proofs.Common.{arith, ◌∙◌}
 use Rattle.silt_log.proofs.Heads.{head_read}
 use Rattle.silt_log.proofs.log.Log.read_head.Goals as goal
 

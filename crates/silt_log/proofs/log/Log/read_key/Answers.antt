@@ -1,4 +1,4 @@
-use Rattle.std.proofs.Common.{arith}
+use Rattle.silt_log.proofs.Common.{arith}
 use Rattle.silt_log.proofs.Parts.{key_read}
 use Rattle.silt_log.proofs.log.Log.read_key.Goals as goal
 

@@ -1,6 +1,4 @@
-use Rattle.std.proofs.Common.{◌≡◌, ℕ, length, ◌∙◌}
-use Rattle.std.proofs.lemmas.Result.{err_from_is_err_and}
-use Rattle.silt_disk.specs.Layout.{Shape}
+use Rattle.silt_log.proofs.Common.{◌≡◌, ℕ, length, ◌∙◌, err_from_is_err_and, Shape}
 use Rattle.silt_log.proofs.ScanExits.{mapped_ok, scan_count, scan_stale, scan_rows, scan_refused}
 use Rattle.silt_log.proofs.log.Log.scan.Goals as goal
 

@@ -1,5 +1,4 @@
-use Rattle.std.proofs.Common.{◌≡◌, ℕ, length, refl, ◌∙◌}
-use Rattle.silt_disk.specs.Layout.{Shape, row_len, bodies_at}
+use Rattle.silt_log.proofs.Common.{◌≡◌, ℕ, length, refl, ◌∙◌, Shape, row_len, bodies_at}
 use Rattle.silt_log.proofs.ScanExits.{scan_count, scan_stale}
 use Rattle.silt_log.proofs.log.Log.scan_commits.Goals as goal
 

@@ -1,8 +1,4 @@
-use Rattle.std.proofs.Common.{rules, ◌≡◌, true, false, refl, ap, sym, subst, ◌∙◌, arith}
-use Rattle.std.proofs.lemmas.Bool.{false≢true}
-use Rattle.silt_disk.proofs.Wrote.{wrote_at, wrote_err, wrote_ok}
-use Rattle.silt_log.specs.State.{LogState, InBounds, IsHeld}
-use Rattle.silt_log.specs.Calls.{Seals}
+use Rattle.silt_log.proofs.Common.{rules, ◌≡◌, true, false, refl, ap, sym, subst, ◌∙◌, arith, false≢true, wrote_at, wrote_err, wrote_ok, LogState, InBounds, IsHeld, Seals}
 use Rattle.silt_log.proofs.Named.{past_place, past_count}
 use Rattle.silt_log.proofs.SealExits.{seal_images, seal_done, quiet_images, quiet_done}
 use Rattle.silt_log.proofs.Splices.{fills_at, within_at, writes_at}
@@ -32,8 +28,7 @@ returns-in_err-write_commits g c =
     let changes = within_at _ _ _ _ _ _ at count c.write_commits.ensures.wrote.changes in
     record {
       wrote =
-          let was = c.in_err-write_commits.was in
-          let written = wrote_err was c.from_residual.ensures.1 (omega arith) (omega arith) (wrote_at at count c.write_commits.ensures.wrote) in
+          let written = wrote_err c.in_err-write_commits.was c.from_residual.ensures.1 (omega arith) (omega arith) (wrote_at at count c.write_commits.ensures.wrote) in
           rw stale written;
       images = seal_images _ _ log bounds c.requires.size c.requires.rests c.requires.scanned _ (bounds.gap stale) refl changes;
       quiet = search rules;
