@@ -23,8 +23,8 @@ TOP = pathlib.Path(__file__).resolve().parent.parent
 NAMES = 100_000
 LENGTH = 64
 VALUE_LEN = LENGTH + 2
-# A store with eight times as large logs as that of `plan`. It takes 9 MB of memory at most.
-LARGE = [VALUE_LEN, 8_192, 28_672, 3, 8, NAMES + 11 * 28_672]
+# A plan with this has eight times as large logs. Its store takes 9 MB of memory at most.
+LARGE = ["--merge-writes", "1"]
 # Connections, commands that each sends at once, and commands in all.
 LOADS = [(1, 1, 1_500), (8, 1, 8_000), (64, 1, 50_000), (8, 50, 200_000), (64, 50, 300_000)]
 RUNS = 3
@@ -122,7 +122,7 @@ def main():
         set_of = ["--shards", str(SHARDS)]
         servers = [
             silt_words(words.program, folder / "planned", planned(words.program), ports[0]),
-            silt_words(words.program, folder / "large", LARGE, ports[1]),
+            silt_words(words.program, folder / "large", planned(words.program, *LARGE), ports[1]),
             silt_words(words.program, folder / "set", planned(words.program, *set_of), ports[2], *set_of),
             redis_words(folder, ports[3]),
         ]

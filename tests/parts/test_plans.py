@@ -31,8 +31,17 @@ class Plans(WatchedCase):
         ), ended.out
 
     def test_a_store_by_plan(self):
-        for keys, length in ((1, 1), (10, 2), (300, 8), (2000, 8)):
-            numbers, text = self.planned(keys, length)
+        for keys, length, *options in (
+            (1, 1),
+            (10, 2),
+            (300, 8),
+            (2000, 8),
+            (1, 1, "--merge-writes", 1),
+            (300, 8, "--merge-writes", 1),
+            (2000, 8, "--merge-writes", 3),
+            (2000, 8, "--merge-writes", 40),
+        ):
+            numbers, text = self.planned(keys, length, *options)
             self.assertEqual(int(numbers.split()[0]), length)
             made = self.silt("format", "store", *numbers.split(), "--force")
             self.assertEqual(made.status, 0, made)
@@ -209,6 +218,206 @@ class Costs(WatchedCase):
                 (ended.status, ended.out, len(ended.err.splitlines())), (1, "no plan\n", 1), ended
             )
             self.assertNotIn("merging writes", ended.err)
+
+
+def rows_of(buckets):
+    """The rows of a log with so many buckets."""
+    return 7 * buckets // 2
+
+
+def up(length):
+    return -(-length // 4096) * 4096
+
+
+class MergeWrites(WatchedCase):
+    """`--merge-writes E`: the smallest B with which merging writes at most E entries for each row.
+    The formulas are those of docs/choosing.md."""
+
+    BUCKETS = [2**power for power in range(1, 16)]
+    MOST_KEYS = 16_777_139
+
+    def may_have(self, keys, buckets):
+        """Whether S has room for so many keys beside 11 regions of rows."""
+        return keys + 11 * rows_of(buckets) <= 16_777_216
+
+    def smallest(self, keys, most):
+        """The smallest B whose four logs have a row for each `most` keys, if S has room."""
+        enough = [it for it in self.BUCKETS if 4 * rows_of(it) * most >= keys]
+        return enough[0] if enough and self.may_have(keys, enough[0]) else None
+
+    def memory_of(self, keys, buckets):
+        return 1043 * buckets + 3 * keys + 55_512
+
+    def least_of(self, keys):
+        """The smallest E that some B keeps to."""
+        buckets = max(it for it in self.BUCKETS if self.may_have(keys, it))
+        return max(1, -(-keys // (4 * rows_of(buckets))))
+
+    def share(self, keys, shards):
+        even = -(-keys // shards)
+        return even + even // 16 + 64
+
+    def way_out(self, keys, most):
+        """The fewest shards with which merging writes no more, if there are so many."""
+        for shards in range(2, 65):
+            share = self.share(keys, shards)
+            if share <= self.MOST_KEYS and self.smallest(share, most):
+                return f"; with --shards {shards} it is {most} or less"
+        return ""
+
+    def text_of(self, keys, length, buckets, shards=1):
+        """What a plan prints, of a set what all its shards take."""
+        rows = rows_of(buckets)
+        most = keys + 11 * rows
+        disk = 12_288 + 3 * (up(rows) + up(rows * (21 + length)))
+        disk += 8 * up(4 * buckets * (21 + length)) + 2 * up(most * (20 + length))
+        memory = self.memory_of(keys, buckets)
+        return (
+            f"{length} {buckets} {rows} 3 8 {most}\ndisk {shards * disk}\nmemory {shards * memory}\n"
+        )
+
+    def check(self, keys, length, most, memory=None):
+        """Compares a plan, or its refusal, with the formulas. Returns the buckets of the plan."""
+        limit = [] if memory is None else ["--memory", memory]
+        ended = self.silt("plan", keys, length, "--merge-writes", most, *limit)
+        buckets = self.smallest(keys, most)
+        what = (keys, length, most, memory, ended)
+        if buckets is None:
+            note = f"with {keys} keys merging writes {self.least_of(keys)} entries for each row or more"
+            self.assert_refused(ended, note + self.way_out(keys, most), what)
+        elif memory is not None and memory < self.memory_of(keys, buckets):
+            note = f"{keys} keys need {self.memory_of(keys, buckets)} bytes of memory or more"
+            bound = f", if merging is to write at most {most} entries for each row"
+            self.assert_refused(ended, note + bound, what)
+        else:
+            self.assertEqual(
+                (ended.status, ended.out), (0, self.text_of(keys, length, buckets)), what
+            )
+            found = COST.fullmatch(ended.err)
+            self.assertIsNotNone(found, what)
+            said = Fraction(found[1].replace(",", ""))
+            entries = Fraction(keys, 4 * rows_of(buckets))
+            self.assertLessEqual(abs(said - entries), Fraction(1, 20), what)
+            self.assertLessEqual(said, most, what)
+        return buckets
+
+    def assert_refused(self, ended, note, what):
+        self.assertEqual(
+            (ended.status, ended.out, ended.err), (1, "no plan\n", f"silt: {note}\n"), what
+        )
+
+    def test_worked_plans(self):
+        """A plan for a hundred thousand keys has 1,024 buckets, and for a million 8,192."""
+        for words, numbers in (
+            ("100000 66", "66 1024 3584 3 8 139424"),
+            ("100000 66 --merge-writes 9", "66 1024 3584 3 8 139424"),
+            ("100000 66 --merge-writes 3", "66 4096 14336 3 8 257696"),
+            ("100000 66 --merge-writes 2", "66 4096 14336 3 8 257696"),
+            ("100000 66 --merge-writes 1", "66 8192 28672 3 8 415392"),
+            ("1000000 100 --merge-writes 3", "100 32768 114688 3 8 2261568"),
+            ("1000000 100 --merge-writes 50", "100 2048 7168 3 8 1078848"),
+            ("1 1 --merge-writes 1", "1 2 7 3 8 78"),
+            ("1000 8 --merge-writes 4294967295", "8 2 7 3 8 1077"),
+        ):
+            ended = self.silt("plan", *words.split())
+            self.assertEqual((ended.status, ended.lines[0]), (0, numbers), words)
+
+    def test_worked_refusals(self):
+        for words, note in (
+            (
+                "1000000 100 --merge-writes 2",
+                "with 1000000 keys merging writes 3 entries for each row or more; with --shards 2 it is 2 or less",
+            ),
+            (
+                "16000000 32 --merge-writes 4",
+                "with 16000000 keys merging writes 70 entries for each row or more; with --shards 10 it is 4 or less",
+            ),
+            (
+                "16000000 32 --merge-writes 4 --memory 1",
+                "with 16000000 keys merging writes 70 entries for each row or more; with --shards 10 it is 4 or less",
+            ),
+            (
+                "100000 66 --merge-writes 2 --memory 4627639",
+                "100000 keys need 4627640 bytes of memory or more, if merging is to write at most 2 entries for each row",
+            ),
+            ("20000000 8 --merge-writes 9", "KEYS is 20000000, and may be 0 to 16777139; --shards 6 has room for them"),
+            ("1000 4097 --merge-writes 1", "V is 4097, and may be 1 to 4096"),
+        ):
+            self.assert_ends(f"plan {words}", "no plan\n", f"silt: {note}\n", 1)
+
+    def test_each_number_of_buckets(self):
+        """The most keys of so many buckets, and one more."""
+        for buckets in self.BUCKETS:
+            for most in (1, 2, 9, 30):
+                keys = 4 * rows_of(buckets) * most
+                self.check(min(keys, self.MOST_KEYS), 8, most)
+                self.check(min(keys + 1, self.MOST_KEYS), 8, most)
+
+    def test_the_most_keys_beside_the_logs(self):
+        """S bounds B if there are many keys."""
+        for buckets in self.BUCKETS[-4:]:
+            keys = 16_777_216 - 11 * rows_of(buckets)
+            for count in (keys, keys + 1):
+                least = self.least_of(count)
+                self.assertIsNone(self.check(count, 8, least - 1))
+                self.assertIsNotNone(self.check(count, 8, least))
+
+    def test_the_least_memory(self):
+        for keys, most in ((0, 1), (1, 1), (29, 1), (1000, 3), (100_000, 2), (3_000_000, 7)):
+            needed = self.memory_of(keys, self.smallest(keys, most))
+            for memory in (needed - 1, needed, needed + 1_000_000):
+                self.check(keys, 100, most, memory)
+
+    def test_nine_is_the_usual_plan(self):
+        """Where nine entries are possible, a plan without the option is the one with nine."""
+        for keys in (0, 1, 252, 253, 12_345, 1_000_000, 4_128_768):
+            usual = self.silt("plan", keys, 100)
+            self.assertEqual(usual, self.silt("plan", keys, 100, "--merge-writes", 9), keys)
+
+    def test_other_plans(self):
+        for _ in range(scaled(40)):
+            keys = round(10 ** self.random.uniform(0, 7.22))
+            most = round(10 ** self.random.uniform(0, 3))
+            least = 57_598 + 3 * keys
+            memory = self.random.choice((None, round(least * self.random.uniform(1, 3))))
+            self.check(keys, self.random.choice((1, 8, 100, 4096)), most, memory)
+
+    def test_sets(self):
+        """Each shard keeps to the limit."""
+        for keys, shards, most, memory in (
+            (0, 2, 1, None),
+            (1_000_000, 2, 2, None),
+            (1_000_000, 4, 1, 150_000_000),
+            (16_000_000, 10, 4, None),
+            (100_000_000, 64, 5, None),
+        ):
+            limit = [] if memory is None else ["--memory", memory]
+            ended = self.silt("plan", keys, 8, "--merge-writes", most, "--shards", shards, *limit)
+            share = self.share(keys, shards)
+            text = self.text_of(share, 8, self.smallest(share, most), shards)
+            self.assertEqual((ended.status, ended.out), (0, text), (keys, shards, ended))
+            self.assertIsNotNone(COST.fullmatch(ended.err), ended)
+
+    def test_sets_that_are_none(self):
+        for words, note in (
+            (
+                "16000000 8 --shards 9 --merge-writes 4",
+                "with 1888953 keys in each of 9 shards merging writes 5 entries for each row or more; with --shards 10 it is 4 or less",
+            ),
+            (
+                "1000000000 8 --shards 64 --merge-writes 1",
+                "with 16601626 keys in each of 64 shards merging writes 290 entries for each row or more",
+            ),
+            (
+                "1000000 8 --shards 2 --merge-writes 2 --memory 71652955",
+                "1000000 keys need 71652956 bytes of memory or more, if merging is to write at most 2 entries for each row",
+            ),
+            (
+                "100000000 8 --shards 4 --merge-writes 5",
+                "each of 4 shards is for 26562564 keys, and may be for 16777139; --shards 47 has room for them",
+            ),
+        ):
+            self.assert_ends(f"plan {words}", "no plan\n", f"silt: {note}\n", 1)
 
 
 if __name__ == "__main__":

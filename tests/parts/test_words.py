@@ -36,6 +36,7 @@ ADDRESS  where a server is: a port of this machine, or an IP address and a port,
 --shards M        check: prints that of each of the M shards in the files FILE.0, FILE.1 ..
 --shards M        dump: prints the lines of the M shards in the files FILE.0, FILE.1 ..
 --memory BYTES    what the store may take of memory, merge included
+--merge-writes E  merging writes at most E entries for each row; 9 where possible if left out
 --shards M        plan: prints the six numbers of one of M shards, and what all of them take
 --audit N         refuses every call after the first N, which it records in memory; the record is not printed
 --sessions M      ends after M sessions; 0 has no end
@@ -65,7 +66,7 @@ JOBS = {
     "tend": ("FILE", "--merge-at --shards"),
     "check": ("FILE", "--shards"),
     "dump": ("FILE", "--shards"),
-    "plan": ("KEYS V", "--memory --shards"),
+    "plan": ("KEYS V", "--memory --merge-writes --shards"),
     "script": ("V B CAP NL NH S", ""),
     "serve": (
         "FILE PORT",
@@ -178,6 +179,17 @@ COMPLAINTS = {
     "plan 1.000 100": f"KEYS cannot be '1.000': {SEPARATED}",
     "plan 1000 100 --memory": "--memory needs a number behind it",
     "plan 1000 100 --memory=1MB": f"--memory cannot be '1MB': {NO_DIGITS}",
+    "plan 1000 100 --merge-writes": "--merge-writes needs a number behind it",
+    "plan 1000 100 --merge-writes --shards 2": "--merge-writes needs a number behind it",
+    "plan 1000 100 --merge-writes 0": "--merge-writes cannot be '0': it is at least one entry for each row",
+    "plan 1000 100 --merge-writes=-1": f"--merge-writes cannot be '-1': {NO_DIGITS}",
+    "plan 1000 100 --merge-writes 2.5": f"--merge-writes cannot be '2.5': {SEPARATED}",
+    "plan 1000 100 --merge-writes few": f"--merge-writes cannot be 'few': {NO_DIGITS}",
+    "plan 1000 100 --merge-writes 4294967296": f"--merge-writes cannot be '4294967296': {TOO_LARGE}",
+    "plan 1000 100 --merge-writes 4 --merge-writes 4": "--merge-writes is given twice",
+    "plan 1000 --merge-writes 4": "V is missing",
+    "run disk --merge-writes 4": "'--merge-writes' is no option here",
+    "serve disk 0 --merge-writes 4": "'--merge-writes' is no option here",
     "serve disk 65536": "PORT cannot be '65536': a port is at most 65535",
     "serve disk 0 --audit": "--audit needs a number behind it",
     "serve disk 0 --audit --sessions 1": "--audit needs a number behind it",

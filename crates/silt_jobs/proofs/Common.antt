@@ -7,8 +7,8 @@ pub use Rattle.silt_jobs.specs.Common.{Merge, OpenError, PassesTo, Refusal, Shap
 pub use Rattle.silt_jobs.specs.Dump.{Dumps}
 pub use Rattle.silt_jobs.specs.Ended.{HasFailed, Refuses, exit_status}
 pub use Rattle.silt_jobs.specs.NewStores.{NewStoreCause}
-pub use Rattle.silt_jobs.specs.PlanCosts.{first_needed, needs_buckets}
-pub use Rattle.silt_jobs.specs.Plans.{bucket_counts, geometry_planned, is_planned, shape_planned}
+pub use Rattle.silt_jobs.specs.MergeWrites.{first_needed, has_room, most_rows}
+pub use Rattle.silt_jobs.specs.Plans.{bucket_counts, geometry_planned, is_planned, needs_buckets, rows_between_merges, shape_planned}
 pub use Rattle.silt_jobs.specs.Scripts.{Fits, TakesBytes, marks_text, opening_text, place_past, start}
 pub use Rattle.silt_jobs.specs.SetFiles.{MakesShards, first_refusal, refusal_or, set_value_len, tending_each}
 pub use Rattle.silt_jobs.specs.SetJobs.{DoesEach, DoesFirst, DumpsFirst, worst_status}

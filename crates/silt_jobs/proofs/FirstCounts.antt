@@ -5,8 +5,8 @@ use Rattle.std.specs.Prelude.{if◌then◌else◌}
 use Rattle.std.specs.Option.{option_map}
 use Rattle.std.proofs.lemmas.List.{at_drop_more, drop_all}
 use Rattle.silt_jobs.specs.Common.{PlanRequest}
-use Rattle.silt_jobs.specs.PlanCosts.{first_needed}
-use Rattle.silt_jobs.specs.Plans.{first_planned}
+use Rattle.silt_jobs.specs.MergeWrites.{first_needed, has_room, most_rows}
+use Rattle.silt_jobs.specs.Plans.{first_planned, rows_between_merges}
 
 module _ {X : Type 0} (first : List ℕ → X) (test : ℕ → Bool) (found : ℕ → X) (more : (n : ℕ) (ns : List ℕ) → first (n ∷ ns) ≡ (if test n then found n else first ns))
     (counts : List ℕ) (at : ℕ) (rest : first counts ≡ first (drop at counts)) where
@@ -35,6 +35,16 @@ needed_more most keys n ns = refl
 pub needed_none : (most keys : ℕ) → first_needed most keys [] ≡ 2
 unfolding first_needed
 needed_none most keys = refl
+
+-- ---- the most rows between two merges
+
+pub rows_more : (keys n : ℕ) (ns : List ℕ) → most_rows keys (n ∷ ns) ≡ (if has_room keys n then rows_between_merges n else most_rows keys ns)
+unfolding most_rows
+rows_more keys n ns = refl
+
+pub rows_none : (keys : ℕ) → most_rows keys [] ≡ 0
+unfolding most_rows
+rows_none keys = refl
 
 -- ---- the geometry of a plan
 

@@ -4,6 +4,7 @@ pub mod Dump
 pub mod Ended
 pub mod Files
 pub mod Jobs
+pub mod MergeWrites
 pub mod NewStores
 pub mod Openings
 pub mod HeldData

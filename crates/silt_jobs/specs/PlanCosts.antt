@@ -1,22 +1,15 @@
 -- What a planned store costs in merging, and in memory at rest.
-use Rattle.std.specs.Prelude.{◌≡◌, ℕ, ◌+◌, ◌*◌, ◌/◌, ◌==◌, nat_lt, ◌||◌, Bool, List, [], ◌∷◌, max, Option, Some, None, if◌then◌else◌}
+use Rattle.std.specs.Prelude.{◌≡◌, ℕ, ◌+◌, ◌*◌, ◌/◌, List, max, Option, Some, None, is_some, if◌then◌else◌}
 use Rattle.silt_jobs.specs.Common.{Shape, device_size, PlanRequest}
 use Rattle.silt_jobs.specs.Ended.{IsDone, Refuses}
-use Rattle.silt_jobs.specs.Plans.{bucket_counts, memory_of, memory_planned, plan_text, shape_planned}
+use Rattle.silt_jobs.specs.MergeWrites.{first_needed}
+use Rattle.silt_jobs.specs.Plans.{bucket_counts, memory_of, memory_planned, plan_text, rows_between_merges, shape_planned, writes_more}
 use Rattle.silt_jobs.specs.declared.people.ended.Ended.{Ended}
 use Rattle.silt_jobs.specs.declared.people.ended.Found.TheVariants.{Cost}
 use Rattle.silt_jobs.specs.declared.people.ended.Why.TheVariants.{NoPlan}
 use Rattle.silt_jobs.specs.declared.plans.plan_cost.PlanCost.{PlanCost}
 use Rattle.silt_jobs.specs.declared.plans.plan_cost.Remedy.{Remedy}
 use Rattle.silt_jobs.specs.declared.plans.plan_cost.Remedy.TheVariants.{SeveralStores, Memory}
-
--- The rows of four full logs, each with seven rows for two buckets: so many rows come between two merges.
-abbrev pub rows_between_merges : ℕ → ℕ
-rows_between_merges buckets = 28 * (buckets / 2)
-
--- a merge that writes all keys writes more than this many entries for each row
-abbrev pub writes_more : ℕ → ℕ → ℕ → Bool
-writes_more most keys buckets = nat_lt (most * rows_between_merges buckets) keys
 
 -- the entries for each row in tenths, the nearest ones; half a tenth counts as one
 abbrev pub tenths_written : ℕ → ℕ → ℕ
@@ -26,15 +19,6 @@ tenths_written keys rows = (20 * keys / max rows 1 + 1) / 2
 -- log's table 24 bytes a bucket, and its commit bytes one a row.
 abbrev pub at_rest : ℕ → ℕ → ℕ
 at_rest keys buckets = max ((4 * keys + 4) / 5) 18504 + 24 * buckets + 7 * (buckets / 2)
-
--- with half as many buckets merging writes more than this many entries for each row, or there are no fewer buckets
-abbrev pub needs_buckets : ℕ → ℕ → ℕ → Bool
-needs_buckets most keys buckets = buckets == 2 || nat_lt (7 * most * buckets) keys
-
--- the first of these bucket counts of which half are too few
-unfoldable pub first_needed : ℕ → ℕ → List ℕ → ℕ
-first_needed most keys [] = 2
-first_needed most keys (buckets ∷ more) = if needs_buckets most keys buckets then buckets else first_needed most keys more
 
 -- the bytes of memory of a plan with which merging writes at most this many entries for each row
 abbrev pub memory_for : ℕ → ℕ → ℕ
@@ -49,9 +33,13 @@ abbrev pub remedy_of : ℕ → ℕ → Option Remedy
 remedy_of keys buckets =
     if writes_more 20 keys buckets then Some (if writes_more 20 keys 32768 then SeveralStores else more_memory keys) else None
 
--- the cost of a planned store of this many buckets for these keys
-abbrev pub cost_of : ℕ → ℕ → PlanCost
-cost_of keys buckets = record { keys = keys; rows = rows_between_merges buckets; at_rest = at_rest keys buckets; remedy = remedy_of keys buckets }
+-- the same, unless the request limits what merging writes
+abbrev pub remedy_for : PlanRequest → ℕ → Option Remedy
+remedy_for r buckets = if is_some r.merge_writes then None else remedy_of r.keys buckets
+
+-- the cost of a store of this many buckets that is planned for this request
+abbrev pub cost_of : PlanRequest → ℕ → PlanCost
+cost_of r buckets = record { keys = r.keys; rows = rows_between_merges buckets; at_rest = at_rest r.keys buckets; remedy = remedy_for r buckets }
 
 -- the numbers of a geometry and so many bytes on disk and in memory were written, and this is the cost
 abbrev pub EndsPlan : {E F : Type 0} → Shape → ℕ → ℕ → PlanCost → Ended E F → Option (List ℕ) → Option (List ℕ) → Type 0
@@ -60,5 +48,5 @@ EndsPlan s disk memory cost ended before after = (ended.found ≡ Some (Cost cos
 -- the plan of this many buckets was written, with its cost, or the line says that there is none
 abbrev pub Plans : {E F : Type 0} → PlanRequest → Option ℕ → Ended E F → Option (List ℕ) → Option (List ℕ) → Type 0
 Plans r (Some buckets) ended before after =
-    EndsPlan (shape_planned r buckets) (device_size (shape_planned r buckets)) (memory_planned r buckets) (cost_of r.keys buckets) ended before after
+    EndsPlan (shape_planned r buckets) (device_size (shape_planned r buckets)) (memory_planned r buckets) (cost_of r buckets) ended before after
 Plans r None ended before after = Refuses (NoPlan r) ended before after

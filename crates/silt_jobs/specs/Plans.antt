@@ -1,6 +1,7 @@
 -- The six numbers of a planned store for a number of keys.
-use Rattle.std.specs.Prelude.{ℕ, ◌+◌, ◌*◌, ◌/◌, ◌==◌, nat_le, nat_lt, ◌&&◌, ◌||◌, Bool, true, List, [], ◌∷◌, ◌++◌, Option, Some, None, if◌then◌else◌, codes, option_map}
+use Rattle.std.specs.Prelude.{ℕ, ◌+◌, ◌*◌, ◌/◌, ◌==◌, nat_le, nat_lt, not, ◌&&◌, ◌||◌, Bool, true, List, [], ◌∷◌, ◌++◌, Option, Some, None, if◌then◌else◌, codes, option_map}
 use Rattle.std.specs.Fmt.{decimal}
+use Rattle.std.specs.Option.{unwrap_or}
 use Rattle.silt_disk.specs.Header.{is_in_limits}
 use Rattle.silt_jobs.specs.Common.{Shape, PlanRequest}
 
@@ -15,7 +16,8 @@ shape_planned r buckets =
     record { value_len = r.value_len; buckets = buckets; log_capacity = rows; logs = 3; hashes = 8; sorted_capacity = r.keys + 11 * rows }
 
 -- The most bytes of memory that a store of so many keys and buckets needs, while four hash stores are merged: 1,043 a bucket, and three
--- indexes of the sorted store (the old one, the new one as it grows, and its copy), each of at most one byte a key and 18,504 beside.
+-- indexes of the sorted store, each of at most one byte a key and 18,504 beside: the old one, and the new one, of which as much again may
+-- be reserved as it grows.
 abbrev pub memory_of : ℕ → ℕ → ℕ
 memory_of keys buckets = 1043 * buckets + 3 * keys + 55512
 
@@ -27,13 +29,31 @@ abbrev pub fits_memory : Option ℕ → ℕ → Bool
 fits_memory None bytes = true
 fits_memory (Some most) bytes = nat_le bytes most
 
--- There are no more buckets than needed: with half as many, four logs have fewer rows than a ninth of the keys.
-abbrev pub is_needed : PlanRequest → ℕ → Bool
-is_needed r buckets = buckets == 2 || nat_lt (63 * buckets) r.keys
+-- The rows of four full logs, each with seven rows for two buckets: so many rows come between two merges.
+abbrev pub rows_between_merges : ℕ → ℕ
+rows_between_merges buckets = 28 * (buckets / 2)
 
--- this many buckets give numbers in their limits, and fit the memory
+-- a merge that writes all keys writes more than this many entries for each row
+abbrev pub writes_more : ℕ → ℕ → ℕ → Bool
+writes_more most keys buckets = nat_lt (most * rows_between_merges buckets) keys
+
+-- with half as many buckets merging writes more than this many entries for each row, or there are no fewer buckets
+abbrev pub needs_buckets : ℕ → ℕ → ℕ → Bool
+needs_buckets most keys buckets = buckets == 2 || nat_lt (7 * most * buckets) keys
+
+-- merging writes no more entries for each row than the limit, if there is one
+abbrev pub fits_writes : Option ℕ → ℕ → ℕ → Bool
+fits_writes None keys buckets = true
+fits_writes (Some most) keys buckets = not (writes_more most keys buckets)
+
+-- There are no more buckets than needed: with half as many, merging writes more entries for each row than the limit, or than nine.
+abbrev pub is_needed : PlanRequest → ℕ → Bool
+is_needed r buckets = needs_buckets (unwrap_or r.merge_writes 9) r.keys buckets
+
+-- this many buckets give numbers in their limits, fit the memory, and keep what merging writes within its limit
 abbrev pub is_possible : PlanRequest → ℕ → Bool
-is_possible r buckets = is_in_limits (shape_planned r buckets) && fits_memory r.memory (memory_planned r buckets)
+is_possible r buckets =
+    is_in_limits (shape_planned r buckets) && (fits_memory r.memory (memory_planned r buckets) && fits_writes r.merge_writes r.keys buckets)
 
 -- and they are needed
 abbrev pub is_planned : PlanRequest → ℕ → Bool

@@ -1,7 +1,8 @@
 -- The plan of a set of shards.
-use Rattle.std.specs.Prelude.{◌⊎◌, ◌≤◌, ◌+◌, ◌-◌, ◌*◌, ◌/◌, ◌%◌, ◌^◌, ℕ, min, List, Option, Some, None, option_map}
+use Rattle.std.specs.Prelude.{◌⊎◌, ◌+◌, ◌-◌, ◌*◌, ◌/◌, ◌%◌, ◌^◌, ℕ, min, IsTrue, List, Option, Some, None, option_map}
 use Rattle.silt_jobs.specs.Common.{device_size, IsShardCount, PlanRequest}
 use Rattle.silt_jobs.specs.Ended.{Refuses}
+use Rattle.silt_jobs.specs.MergeWrites.{is_plannable}
 use Rattle.silt_jobs.specs.PlanCosts.{EndsPlan, cost_of}
 use Rattle.silt_jobs.specs.Plans.{bucket_counts, first_planned, memory_planned, shape_planned}
 use Rattle.silt_jobs.specs.declared.people.ended.Ended.{Ended}
@@ -18,13 +19,18 @@ even_share shards keys = keys / shards + min 1 (keys % shards)
 abbrev pub share_of : ℕ → ℕ → ℕ
 share_of shards keys = even_share shards keys + even_share shards keys / 16 + 64
 
--- what one of so many shards is planned for: its share of the keys, and of the memory
+-- what one of so many shards is planned for: its share of the keys and of the memory, with the same limit for what merging writes
 abbrev pub shard_request : ℕ → PlanRequest → PlanRequest
-shard_request shards r = record { keys = share_of shards r.keys; value_len = r.value_len; memory = option_map (λ bytes. bytes / shards) r.memory }
+shard_request shards r = record {
+  keys = share_of shards r.keys;
+  value_len = r.value_len;
+  memory = option_map (λ bytes. bytes / shards) r.memory;
+  merge_writes = r.merge_writes;
+}
 
--- so many shards are enough for the keys: some plan has room for the share of each
-abbrev pub IsEnoughFor : ℕ → ℕ → Type 0
-IsEnoughFor keys shards = share_of shards keys ≤ 16777139
+-- so many shards are enough for the keys: there is a plan for the share of each with which merging writes no more than the limit
+abbrev pub IsEnoughFor : Option ℕ → ℕ → ℕ → Type 0
+IsEnoughFor merge_writes keys shards = IsTrue (is_plannable merge_writes (share_of shards keys))
 
 -- so many times a number, but no more than 64 bits hold
 abbrev pub times : ℕ → ℕ → ℕ
@@ -44,7 +50,7 @@ abbrev pub PlansShards : {E F : Type 0} → ℕ → PlanRequest → Option ℕ �
 PlansShards shards r (Some buckets) ended before after =
     let one = shard_request shards r in
     EndsPlan (shape_planned one buckets) (times shards (device_size (shape_planned one buckets))) (times shards (memory_planned one buckets))
-    (set_cost shards (cost_of one.keys buckets)) ended before after
+    (set_cost shards (cost_of one buckets)) ended before after
 PlansShards shards r None ended before after = Refuses (NoSetPlan shards r) ended before after
 
 -- a set of so many shards was planned, or the number is that of none

@@ -276,6 +276,7 @@ fn reads_what_to_plan_for(rt: HostRuntime) -> Result<(), Fail> {
         keys: 1_000_000,
         value_len: 100,
         memory: None,
+        merge_writes: None,
     };
     plans(&rt, "silt plan 1000000 100", unlimited)?;
     let limited = PlanRequest {
@@ -283,7 +284,16 @@ fn reads_what_to_plan_for(rt: HostRuntime) -> Result<(), Fail> {
         ..unlimited
     };
     plans(&rt, "silt plan 1000000 100 --memory 4294967295", limited)?;
-    plans(&rt, "silt plan --memory=4294967295 1000000 100", limited)
+    plans(&rt, "silt plan --memory=4294967295 1000000 100", limited)?;
+    let bounded = PlanRequest {
+        merge_writes: Some(3),
+        ..limited
+    };
+    plans(
+        &rt,
+        "silt plan 1000000 --memory 4294967295 100 --merge-writes=3",
+        bounded,
+    )
 }
 
 fn names_no_job<S: AllocGlobal + Abort>(rt: &S, call: &str) -> Result<(), Fail> {
@@ -373,6 +383,9 @@ fn refuses_options_that_are_not_the_jobs(rt: HostRuntime) -> Result<(), Fail> {
         "silt plan 1000 100 100",
         "silt plan 1000 100 --memory",
         "silt plan 1000 100 --memory 4294967296",
+        "silt plan 1000 100 --merge-writes",
+        "silt plan 1000 100 --merge-writes 0",
+        "silt plan 1000 100 --merge-writes 4294967296",
         "silt plan 1_000 100",
         "silt plan 1,000 100",
         "silt run disk --idle 1",

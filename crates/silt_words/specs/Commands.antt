@@ -63,7 +63,8 @@ abbrev pub dump_app : App
 dump_app = with_option (with_file (new_app (codes "dump"))) (codes "shards")
 
 abbrev pub plan_app : App
-plan_app = with_option (with_option (with_value (with_value (new_app (codes "plan")) (codes "KEYS")) (codes "V")) (codes "memory")) (codes "shards")
+plan_app =
+    with_option (with_option (with_option (with_value (with_value (new_app (codes "plan")) (codes "KEYS")) (codes "V")) (codes "memory")) (codes "merge-writes")) (codes "shards")
 
 abbrev pub serve_app : App
 serve_app =
@@ -314,9 +315,9 @@ service_in rows =
 -- what a store is to be planned for
 abbrev pub request_in : List Row → Option PlanRequest
 request_in rows =
-    option_and_then (λ keys. option_and_then (λ value_len. option_map (λ memory.
-    record { keys = keys; value_len = value_len; memory = memory })
-    (option_in rows (codes "memory"))) (number_in rows (codes "V"))) (number_in rows (codes "KEYS"))
+    option_and_then (λ keys. option_and_then (λ value_len. option_and_then (λ memory. option_map (λ merge_writes.
+    record { keys = keys; value_len = value_len; memory = memory; merge_writes = merge_writes })
+    (count_in rows (codes "merge-writes"))) (option_in rows (codes "memory"))) (number_in rows (codes "V"))) (number_in rows (codes "KEYS"))
 
 -- the plan of a store, or of one shard of a set
 abbrev pub plan_or_set : PlanRequest → Option ℕ → Named

@@ -155,6 +155,13 @@ const MEMORY: Choice = Choice {
     text: "what the store may take of memory, merge included",
 };
 
+const MERGE_WRITES: Choice = Choice {
+    name: "merge-writes",
+    operand: Some(Operand::Number("E")),
+    needs: None,
+    text: "merging writes at most E entries for each row; 9 where possible if left out",
+};
+
 const AUDIT: Choice = Choice {
     name: "audit",
     operand: Some(Operand::Number("N")),
@@ -363,7 +370,7 @@ pub const FORMS: [Form; 10] = [
         values: &["KEYS", "V"],
         shown: Some("[OPTION]..."),
         text: "prints the six numbers of a store for so many keys",
-        options: &[MEMORY, PLAN_SHARDS],
+        options: &[MEMORY, MERGE_WRITES, PLAN_SHARDS],
         input: &[],
     },
     Form {

@@ -100,6 +100,8 @@ pub struct PlanRequest {
     pub value_len: u32,
     /// The bytes of memory that the store, or the whole set, may use, if they are limited.
     pub memory: Option<u32>,
+    /// How many entries merging may write for each row, if that is limited.
+    pub merge_writes: Option<u32>,
 }
 
 /// What is to be done with the files of a set, each of which is a shard of one store.

@@ -6,7 +6,7 @@
 //! of this machine, or an IP address in digits, a colon and a port.
 //!
 //! Options are `--force` and `--sparse` of `format`, `--tend` and `--strict` of `run`, `--merge-at K` of `run`, `tend` and
-//! `serve`, `--memory BYTES` of `plan`, `--shards M` of all but `script`, and `--audit N`,
+//! `serve`, `--memory BYTES` and `--merge-writes E` of `plan`, `--shards M` of all but `script`, and `--audit N`,
 //! `--sessions M`, `--idle SECONDS`, `--wait SECONDS`, `--pipeline`, `--resp`, `--bind ADDRESS`,
 //! `--password-file PATH`, `--clients N`, `--stay`, `--scrub HOURS`, `--scrub-rate MB`, `--metrics PORT`, `--backup PATH` and,
 //! beside `--shards`, `--mergers G` of `serve`, and `--password-file PATH` of `stop` and `info`. Each is given at most once,

@@ -130,6 +130,9 @@ fn why_out_of_limits(name: &str, word: &str) -> &'static str {
         "mergers" if number_of(word.as_bytes()) == Some(0) => {
             "at least one shard is merged at a time"
         }
+        "merge-writes" if number_of(word.as_bytes()) == Some(0) => {
+            "it is at least one entry for each row"
+        }
         _ => "a number has at most ten digits, and is at most 4294967295",
     }
 }
@@ -383,7 +386,7 @@ fn is_number(name: &str, number: u32) -> bool {
         "clients" => 0 < number && number <= MOST_CLIENTS,
         "scrub" => 0 < number && number <= MOST_SCRUB,
         "scrub-rate" => 0 < number && number <= MOST_SCRUB_RATE,
-        "merge-at" | "mergers" => 0 < number,
+        "merge-at" | "mergers" | "merge-writes" => 0 < number,
         _ => true,
     }
 }

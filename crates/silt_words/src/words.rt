@@ -394,6 +394,7 @@ fn request_of(matches: &ArgMatches<'_>) -> Option<PlanRequest>
         keys: number_at(matches, "KEYS")?,
         value_len: number_at(matches, "V")?,
         memory: option_at(matches, "memory")?,
+        merge_writes: count_at(matches, "merge-writes")?,
     })
 }
 

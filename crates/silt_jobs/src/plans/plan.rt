@@ -5,7 +5,7 @@ ghost use Rattle.silt_jobs.specs.PlanCosts.{EndsPlan, Plans};
 ghost use Rattle.silt_jobs.specs.Plans.{bucket_counts, first_planned, fits_memory, geometry_planned, is_needed, is_planned, memory_of, number_after, plan_text, shape_planned};
 
 use crate::people::{Ended, Found, Why, write_out};
-use crate::plans::{PlanCost, cost_of, least_shards, share_of};
+use crate::plans::{PlanCost, cost_of, fits_writes, needs_buckets};
 use silt_disk::Geometry;
 use silt_words::PlanRequest;
 use std::alloc::{AllocError, Global};
@@ -17,12 +17,15 @@ pub const BUCKET_COUNTS: [u32; 15] = [
     32_768, 16_384, 8192, 4096, 2048, 1024, 512, 256, 128, 64, 32, 16, 8, 4, 2,
 ];
 
+/// How many entries merging is to write for each row at most, if a request does not say.
+const USUAL_WRITES: u32 = 9;
+
 /// The most keys of a plan: with two buckets and eleven regions of seven rows, the sum is the greatest S.
 pub const MOST_KEYS: u32 = 16_777_216 - 77;
 
 /// Writes the six numbers of a store for this many keys, and what it costs on disk and in memory. It has as many
-/// buckets as four logs need for a ninth of the keys, or fewer if the numbers or the memory are limited. The status is 1 if
-/// there is no such store.
+/// buckets as four logs need for a ninth of the keys, or fewer if the numbers or the memory are limited. If the request limits
+/// what merging writes, it has the fewest buckets that keep to that. The status is 1 if there is no such store.
 pub fn write_plan<E: Drop, F: Drop, W: Write>(
     alloc: Global,
     request: &PlanRequest,
@@ -32,7 +35,7 @@ pub fn write_plan<E: Drop, F: Drop, W: Write>(
 {
     match geometry_planned(request) {
         Some(geometry) => {
-            let cost = cost_of(request.keys, geometry.buckets());
+            let cost = cost_of(request, geometry.buckets());
             let memory = memory_planned(request.keys, geometry.buckets());
             end_plan(alloc, &geometry, geometry.size(), memory, cost, writer)
         }
@@ -72,68 +75,6 @@ fn write_numbers<W: Write>(
     Ok(0)
 }
 
-/// Why no store has room for what is planned.
-#[derive(Clone, Copy, Debug, PartialEq, Eq)]
-pub enum Obstacle {
-    /// A value has this many bytes.
-    ValueLen(u32),
-    /// There are this many keys. A set of so many shards has room for them.
-    Keys(u32, Option<u32>),
-    /// There are this many keys in each of so many shards. A set of so many has room for them.
-    Shares {
-        shards: u32,
-        share: u32,
-        enough: Option<u32>,
-    },
-    /// The least store for this many keys needs this many bytes of memory.
-    Memory(u32, u64),
-}
-
-impl fmt::Display for Obstacle {
-    fn fmt<W: fmt::Write>(&self, f: &mut fmt::Formatter<W>) -> fmt::Result {
-        match *self {
-            Obstacle::ValueLen(len) => write!(f, "V is {len}, and may be 1 to 4096"),
-            Obstacle::Keys(keys, enough) => {
-                write!(f, "KEYS is {keys}, and may be 0 to {MOST_KEYS}")?;
-                write_enough(enough, f)
-            }
-            Obstacle::Shares {
-                shards,
-                share,
-                enough,
-            } => {
-                write!(
-                    f,
-                    "each of {shards} shards is for {share} keys, and may be for {MOST_KEYS}"
-                )?;
-                write_enough(enough, f)
-            }
-            Obstacle::Memory(keys, bytes) => {
-                write!(f, "{keys} keys need {bytes} bytes of memory or more")
-            }
-        }
-    }
-}
-
-// Writes with how many shards there is room, if there is.
-fn write_enough<W: fmt::Write>(enough: Option<u32>, f: &mut fmt::Formatter<W>) -> fmt::Result {
-    match enough {
-        Some(shards) => write!(f, "; --shards {shards} has room for them"),
-        None => Ok(()),
-    }
-}
-
-/// What no store has room for, if there is no plan: the length of a value, else the number of keys, else the memory.
-pub fn obstacle_of(request: &PlanRequest) -> Obstacle {
-    if request.value_len < 1 || request.value_len > 4096 {
-        Obstacle::ValueLen(request.value_len)
-    } else if request.keys > MOST_KEYS {
-        Obstacle::Keys(request.keys, least_shards(request.keys))
-    } else {
-        Obstacle::Memory(request.keys, memory_planned(request.keys, 2))
-    }
-}
-
 /// The geometry of the most buckets that can be planned.
 pub fn geometry_planned(request: &PlanRequest) -> Option<Geometry>
     ensures { result ≡ geometry_planned request.now bucket_counts }
@@ -152,28 +93,12 @@ fn is_needed(request: &PlanRequest, buckets: u32) -> bool
     requires { buckets ≤ 32768 }
     ensures { result ≡ is_needed request.now buckets }
 {
-    buckets == 2 || 63 * buckets < request.keys
+    let most = request.merge_writes.unwrap_or(USUAL_WRITES);
+    needs_buckets(most, request.keys, buckets)
 }
 
-/// What no set of so many shards has room for, if there is no plan: the length of a value, else the keys of each shard, else
-/// the memory of all.
-pub fn set_obstacle_of(shards: u32, request: &PlanRequest) -> Obstacle {
-    if shards < 2 || request.value_len < 1 || request.value_len > 4096 {
-        return Obstacle::ValueLen(request.value_len);
-    }
-    let share = share_of(shards, request.keys);
-    if share > MOST_KEYS {
-        return Obstacle::Shares {
-            shards,
-            share,
-            enough: least_shards(request.keys),
-        };
-    }
-    let memory = memory_planned(share, 2).saturating_mul(u64::from(shards));
-    Obstacle::Memory(request.keys, memory)
-}
-
-// The geometry of this many buckets, if they are needed, its numbers are in their limits, and it fits the memory.
+// The geometry of this many buckets, if they are needed, its numbers are in their limits, it fits the memory, and merging
+// writes no more than the request allows.
 fn planned(request: &PlanRequest, buckets: u32) -> Option<Geometry>
     requires { buckets ≤ 32768 }
     ensures { result ≡ (if is_planned request.now buckets then Some (shape_planned request.now buckets) else None) }
@@ -182,6 +107,9 @@ fn planned(request: &PlanRequest, buckets: u32) -> Option<Geometry>
         return None;
     }
     if !fits_memory(request.memory, memory_planned(request.keys, buckets)) {
+        return None;
+    }
+    if !fits_writes(request.merge_writes, request.keys, buckets) {
         return None;
     }
     let rows = 7 * (buckets / 2);

@@ -1,9 +1,9 @@
 // What a planned store costs in merging, and in memory at rest.
 ghost use Rattle.std.specs.Prelude.{◌≡◌, ◌≤◌};
-ghost use Rattle.silt_jobs.specs.Plans.{bucket_counts};
-ghost use Rattle.silt_jobs.specs.PlanCosts.{at_rest, cost_of, first_needed, memory_for, rows_between_merges, more_memory, needs_buckets, remedy_of, tenths_written, writes_more};
+ghost use Rattle.silt_jobs.specs.PlanCosts.{at_rest, cost_of, more_memory, remedy_for, remedy_of, tenths_written};
 
-use crate::plans::{BUCKET_COUNTS, memory_planned};
+use crate::plans::{fewest_buckets, memory_planned, rows_between_merges, writes_more};
+use silt_words::PlanRequest;
 use std::fmt;
 
 /// The most buckets of a geometry.
@@ -94,34 +94,17 @@ impl fmt::Display for Bytes {
     }
 }
 
-/// What a planned store of this many buckets for these keys costs.
-pub fn cost_of(keys: u32, buckets: u32) -> PlanCost
+/// What a store of this many buckets that is planned for this request costs.
+pub fn cost_of(request: &PlanRequest, buckets: u32) -> PlanCost
     requires { buckets ≤ 32768 }
-    ensures { result ≡ cost_of keys buckets }
+    ensures { result ≡ cost_of request.now buckets }
 {
     PlanCost {
-        keys,
+        keys: request.keys,
         rows: rows_between_merges(buckets),
-        at_rest: at_rest(keys, buckets),
-        remedy: remedy_of(keys, buckets),
+        at_rest: at_rest(request.keys, buckets),
+        remedy: remedy_for(request, buckets),
     }
-}
-
-// How many rows come between two merges of four hash stores.
-fn rows_between_merges(buckets: u32) -> u32
-    requires { buckets ≤ 32768 }
-    ensures { result ≡ rows_between_merges buckets }
-{
-    28 * (buckets / 2)
-}
-
-// Whether merging writes more than this many entries for each row.
-fn writes_more(most: u32, keys: u32, buckets: u32) -> bool
-    requires most { most ≤ 20 }
-    requires buckets { buckets ≤ 32768 }
-    ensures { result ≡ writes_more most keys buckets }
-{
-    most * rows_between_merges(buckets) < keys
 }
 
 // The bytes of memory when all is merged and one log is in use: the index of the sorted store, and the log with its
@@ -132,6 +115,17 @@ fn at_rest(keys: u32, buckets: u32) -> u64
 {
     let index = ((4 * u64::from(keys) + 4) / 5).max(18_504);
     index + 24 * u64::from(buckets) + 7 * u64::from(buckets / 2)
+}
+
+// What helps, if merging writes more than twenty entries for each row and the request does not limit that.
+fn remedy_for(request: &PlanRequest, buckets: u32) -> Option<Remedy>
+    requires { buckets ≤ 32768 }
+    ensures { result ≡ remedy_for request.now buckets }
+{
+    if request.merge_writes.is_some() {
+        return None;
+    }
+    remedy_of(request.keys, buckets)
 }
 
 // What helps, if merging writes more than twenty entries for each row.
@@ -159,26 +153,4 @@ fn more_memory(keys: u32) -> Remedy
     };
     let bytes = memory_planned(keys, fewest_buckets(most, keys));
     Remedy::Memory { bytes, most }
-}
-
-// The fewest buckets with which merging writes at most this many entries for each row.
-fn fewest_buckets(most: u32, keys: u32) -> u32
-    requires { most ≤ 20 }
-    ensures { result ≡ first_needed most keys bucket_counts }
-{
-    for buckets in BUCKET_COUNTS {
-        if needs_buckets(most, keys, buckets) {
-            return buckets;
-        }
-    }
-    2
-}
-
-// Whether half as many buckets would be too few.
-fn needs_buckets(most: u32, keys: u32, buckets: u32) -> bool
-    requires most { most ≤ 20 }
-    requires buckets { buckets ≤ 32768 }
-    ensures { result ≡ needs_buckets most keys buckets }
-{
-    buckets == 2 || 7 * most * buckets < keys
 }

@@ -7,7 +7,7 @@ ghost use Rattle.silt_jobs.specs.SetPlans.{IsEnoughFor, PlansSet, set_cost, set_
 use crate::jobs::is_set;
 use crate::people::{Ended, Why};
 use crate::plans::{
-    MOST_KEYS, PlanCost, Remedy, cost_of, end_plan, geometry_planned, memory_planned,
+    PlanCost, Remedy, cost_of, end_plan, geometry_planned, is_plannable, memory_planned,
 };
 use silt_shards::{LEAST_SHARDS, MOST_SHARDS};
 use silt_words::PlanRequest;
@@ -30,7 +30,7 @@ pub fn write_set_plan<E: Drop, F: Drop, W: Write>(
     let one = shard_request(shards, request);
     match geometry_planned(&one) {
         Some(geometry) => {
-            let cost = set_cost(shards, one.keys, geometry.buckets());
+            let cost = set_cost(shards, &one, geometry.buckets());
             let disk = times(shards, geometry.size());
             let memory = times(shards, memory_planned(one.keys, geometry.buckets()));
             end_plan(alloc, &geometry, disk, memory, cost, writer)
@@ -67,15 +67,16 @@ fn shard_request(shards: u32, request: &PlanRequest) -> PlanRequest
             Some(bytes) => Some(bytes / shards),
             None => None,
         },
+        merge_writes: request.merge_writes,
     }
 }
 
-// What a set of shards of this many buckets costs, each for so many keys.
-fn set_cost(shards: u32, keys: u32, buckets: u32) -> PlanCost
+// What a set of shards of this many buckets costs, of which each is planned for this request.
+fn set_cost(shards: u32, one: &PlanRequest, buckets: u32) -> PlanCost
     requires { buckets ≤ 32768 }
-    ensures { result ≡ set_cost shards (cost_of keys buckets) }
+    ensures { result ≡ set_cost shards (cost_of one.now buckets) }
 {
-    let cost = cost_of(keys, buckets);
+    let cost = cost_of(one, buckets);
     PlanCost {
         keys: cost.keys,
         rows: cost.rows,
@@ -100,14 +101,15 @@ fn set_remedy(shards: u32, remedy: Remedy) -> Remedy
     }
 }
 
-/// The least number of shards of a set that has room for this many keys, if one has.
-pub fn least_shards(keys: u32) -> Option<u32>
-    ensures room { IfSome result (IsEnoughFor keys) }
-    ensures least { IfSome result (λ shards. (fewer : ℕ) → 2 ≤ fewer → fewer < shards → ¬ IsEnoughFor keys fewer) }
-    ensures none { IfNone result ((shards : ℕ) → least_shards ≤ shards → shards ≤ most_shards → ¬ IsEnoughFor keys shards) }
+/// The least number of shards of a set that has room for this many keys and keeps what merging writes within its limit, if
+/// one has and does.
+pub fn least_shards(merge_writes: Option<u32>, keys: u32) -> Option<u32>
+    ensures room { IfSome result (IsEnoughFor merge_writes keys) }
+    ensures least { IfSome result (λ shards. (fewer : ℕ) → 2 ≤ fewer → fewer < shards → ¬ IsEnoughFor merge_writes keys fewer) }
+    ensures none { IfNone result ((shards : ℕ) → least_shards ≤ shards → shards ≤ most_shards → ¬ IsEnoughFor merge_writes keys shards) }
 {
     for shards in LEAST_SHARDS..MOST_SHARDS + 1 {
-        if share_of(shards, keys) <= MOST_KEYS {
+        if is_plannable(merge_writes, share_of(shards, keys)) {
             return Some(shards);
         }
     }

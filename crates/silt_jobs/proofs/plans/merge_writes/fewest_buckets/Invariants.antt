@@ -1,5 +1,5 @@
 use Rattle.silt_jobs.proofs.Common.{◌≡◌, drop, bucket_counts, first_needed}
-use Rattle.silt_jobs.proofs.plans.plan_cost.fewest_buckets.Given as goal
+use Rattle.silt_jobs.proofs.plans.merge_writes.fewest_buckets.Given as goal
 
 abbrev pub invariant-loop-buckets : goal.invariant-loop-buckets
 invariant-loop-buckets l = record {

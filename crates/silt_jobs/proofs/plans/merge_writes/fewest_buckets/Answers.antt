@@ -1,6 +1,6 @@
 use Rattle.silt_jobs.proofs.Common.{refl, sym, ◌∙◌, first_needed, needs_buckets, bucket_counts}
 use Rattle.silt_jobs.proofs.FirstCounts.{it_fails, it_passes, needed_more, needed_none, none_here}
-use Rattle.silt_jobs.proofs.plans.plan_cost.fewest_buckets.Goals as goal
+use Rattle.silt_jobs.proofs.plans.merge_writes.fewest_buckets.Goals as goal
 
 pub returns-then-needs_buckets : goal.returns-then-needs_buckets
 returns-then-needs_buckets c =
