@@ -1,6 +1,8 @@
 -- What a server writes and leaves.
-use Rattle.std.specs.Prelude.{◌≡◌, ◌⊎◌, ℕ, All, List, length, ◌++◌, ◌%◌, ◌^◌, Option, Some, Result, Ok, codes, sum}
+use Rattle.std.specs.Prelude.{◌≡◌, ◌⊎◌, ℕ, All, List, [], length, ◌++◌, ◌%◌, ◌^◌, Option, Some, Result, Ok, codes, slice_get, sum}
 use Rattle.std.specs.List.{AllZip}
+use Rattle.std.specs.Option.{option_map}
+use Rattle.logbook.specs.Pages.{Book}
 use Rattle.std.specs.Io.KnownBytes.{Appends}
 use Rattle.silt_disk.specs.Disk.{Content}
 use Rattle.silt_disk.specs.Layout.{Shape}
@@ -9,9 +11,11 @@ use Rattle.silt_event.specs.declared.refusal.Refusal.{Refusal}
 use Rattle.silt_event.specs.declared.refusal.Refusal.TheVariants.{NoMemory}
 use Rattle.silt_store_set.specs.CoreInvariant.{LeavesBegun}
 use Rattle.silt_store_set.specs.CoreState.{CoreState, EntriesCause}
-use Rattle.silt_desk.specs.Anchors.{AnchoredState, HasPast}
+use Rattle.silt_desk.specs.Anchors.{AnchoredState, HasPast, LeadsFrom}
+use Rattle.silt_desk.specs.CallLogs.{CallsSeen}
 use Rattle.silt_desk.specs.History.{count_accepted}
 use Rattle.silt_desk.specs.Seeing.{SeenStore, seen}
+use Rattle.silt_desk.specs.Servings.{LeavesCalls}
 use Rattle.silt_desk.specs.Traces.{IsHistory, Keeping, LeadsTo}
 use Rattle.silt_desk.specs.declared.call.RecordedCall.{RecordedCall}
 use Rattle.silt_server.specs.Texts.{calls_text, listening_text, refused_text}
@@ -80,6 +84,38 @@ pub record IsTraced {D F T E : Type 0} (facts : Ghosts D F) (agrees : T → Seen
   pub printed : status ≡ Ok 0 → PrintsServed has_port counts state.trace before after
 
 -- ---- a server of a set
+
+-- the store of the shard of this number among these
+abbrev pub seen_at : {D F : Type 0} → Ghosts D F → List (CoreState D) → ℕ → Option SeenStore
+seen_at facts cores shard = option_map (seen facts) (slice_get cores shard)
+
+-- the names of a log's shard are those of this store and of the log, which has no calls
+abbrev pub IsNamedFor : {D F : Type 0} → Ghosts D F → (ℕ → Option SeenStore) → (ℕ → Book) → CoreState D → CallsSeen → Type 0
+IsNamedFor facts first calls core log = (first log.shard ≡ Some (seen facts core)) × (log.book ≡ calls log.shard) × (log.calls ≡ [])
+
+-- each log is of the shard at its place, and has no calls
+abbrev pub AreNewLogs : List CallsSeen → Type 0
+AreNewLogs logs = (i : ℕ) (log : CallsSeen) → slice_get logs i ≡ Some log → (log.shard ≡ i) × (log.calls ≡ [])
+
+-- each trace is of the shard at its place
+abbrev pub AreInPlace : {T : Type 0} → List (AnchoredState T) → Type 0
+AreInPlace {T} traces = (i : ℕ) (trace : AnchoredState T) → slice_get traces i ≡ Some trace → trace.shard ≡ i
+
+-- calls that a trace counts lead from the store that is named for its shard to this one, whose disk is this
+abbrev pub IsLedFrom : {D F T : Type 0} → Ghosts D F → (ℕ → Option SeenStore) → (T → ℕ → ℕ → Type 0) → CoreState D → AnchoredState T → D → Type 0
+IsLedFrom facts first counts last state disk = (last.disk ≡ disk) × HasPast (first state.shard) counts state (seen facts last)
+
+-- some calls lead from the store that is named, if one is, to a store with this disk
+abbrev pub LeavesFrom : {D F : Type 0} → Ghosts D F → Option SeenStore → D → Type 0
+LeavesFrom {D} facts named disk = (last : CoreState D) × (calls : List RecordedCall) × (last.disk ≡ disk) × LeadsFrom named calls (seen facts last)
+
+-- the same of each disk, from the store that is named for the shard at its place
+abbrev pub EachFrom : {D F : Type 0} → Ghosts D F → (ℕ → Option SeenStore) → List D → Type 0
+EachFrom {D} facts first disks = (i : ℕ) (disk : D) → slice_get disks i ≡ Some disk → LeavesFrom facts (first i) disk
+
+-- each disk is left by calls that lead there from the opened store of its shard; or there are no disks
+abbrev pub LeavesEach : {D F : Type 0} → Ghosts D F → List (CoreState D) → List D → Type 0
+LeavesEach facts cores disks = (disks ≡ []) ⊎ AllZip (LeavesCalls facts) cores disks
 
 -- these are the numbers of the calls that the traces count
 abbrev pub CountsEach : {T : Type 0} → (T → ℕ → ℕ → Type 0) → List T → List ℕ → Type 0

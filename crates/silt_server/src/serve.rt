@@ -1,5 +1,5 @@
 // A server on one listener.
-ghost use Rattle.std.specs.Prelude.{◌≡◌, ◌⊎◌, ◌++◌, [], Ok, Some, IfErr, IfOk, IfSome, OnOk, codes};
+ghost use Rattle.std.specs.Prelude.{◌≡◌, ◌⊎◌, ◌++◌, ℕ, [], Ok, Some, IfErr, IfOk, IfSome, OnOk, codes};
 ghost use Rattle.std.specs.Io.KnownBytes.{Appends};
 ghost use Rattle.silt_disk.specs.Layout.{Shape};
 ghost use Rattle.silt_store_set.specs.CoreInvariant.{LeavesBegun};
@@ -121,8 +121,8 @@ impl<L: Listens + Sync, G: Gate + Sync, C: Cares, R: Threads + Wait + Clock + Sy
         requires put { (blanks.put.name ≡ N.put_name) × (blanks.put.parts ≡ N.feeders) × (N.feeders ≡ 1024) }
         requires taken { (blanks.taken.name ≡ N.taken_name) × (blanks.taken.parts ≡ 1) }
         requires log { blanks.log ≡ N.log }
-        requires history { (blanks.history.book ≡ N.calls) × (blanks.history.calls ≡ []) }
-        requires trace { (N.first ≡ Some (seen D.Disk core)) × T.agrees trace (seen D.Disk core) × T.counts trace 0 0 }
+        requires history { (blanks.history.book ≡ N.calls blanks.history.shard) × (blanks.history.calls ≡ []) }
+        requires trace { ((shard : ℕ) → N.first shard ≡ Some (seen D.Disk core)) × T.agrees trace (seen D.Disk core) × T.counts trace 0 0 }
         ensures traced { IsTraced D.Disk T.agrees T.counts (L.has_port self.now.listener.now) core result.0 result.1 (W.contents out.old) (W.contents out.new) }
         ensures printed { IfOk result.1 (IsStatus (BreaksServing (L.has_port self.now.listener.now) (W.contents out.old) (W.contents out.new))) }
         ensures left { (shape : Shape) × LeavesBegun (D.content result.0) shape }
@@ -289,7 +289,7 @@ impl Blanks {
             put: Blank::new(MOST_SESSIONS),
             taken: Blank::new(1),
             log: LogStart::new(),
-            history: CallLog::new(),
+            history: CallLog::new(0),
         }
     }
 }

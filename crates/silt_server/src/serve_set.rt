@@ -1,12 +1,14 @@
 // A server of a set on one listener.
-ghost use Rattle.std.specs.Prelude.{◌≡◌, ◌≤◌, ◌⊎◌, ◌%◌, ◌^◌, ℕ, [], All, IfOk, IfSome, List, Ok, false, length, map, sum, vec_capacity, vec_len};
+ghost use Rattle.std.specs.Prelude.{◌≡◌, ◌≤◌, ◌⊎◌, ◌%◌, ◌^◌, ℕ, [], All, IfOk, IfSome, IsSomeAnd, List, Ok, false, length, map, sum, vec_capacity, vec_len};
 ghost use Rattle.std.specs.Io.KnownBytes.{Appends};
+ghost use Rattle.std.specs.List.{AllZip};
 ghost use Rattle.silt_disk.specs.Layout.{Shape};
 ghost use Rattle.silt_store_set.specs.CoreInvariant.{LeavesBegun};
 ghost use Rattle.silt_inbox.specs.Books.{has_books};
 ghost use Rattle.silt_shards.specs.Routing.{IsShardCount};
 ghost use Rattle.silt_wire.specs.Statuses.{IsStatus};
-ghost use Rattle.silt_server.specs.Serving.{BreaksServing, CountsEach, PrintsAllCalls, PrintsAllServed, ServesSetAt, network_text, no_memory_text};
+ghost use Rattle.silt_server.specs.Serving.{AreInPlace, AreNewLogs, BreaksServing, CountsEach, EachFrom, IsLedFrom, IsNamedFor, LeavesEach, PrintsAllCalls, PrintsAllServed};
+ghost use Rattle.silt_server.specs.Serving.{ServesSetAt, network_text, no_memory_text};
 
 use crate::care::Cares;
 use crate::common::Serving;
@@ -17,7 +19,9 @@ use crate::serving_set::{ServingSet, ShardPart};
 use crate::workers::Workers;
 use crate::written::{refuse, write_calls, write_network_fault};
 use crossbeam_channel::{Receiver, Sender};
-use silt_desk::{Count, Desk, DeskId, Gate, Seat, Shared, Trace, Viewed};
+use silt_desk::{
+    Anchor, Anchored, CallLog, Count, Desk, DeskId, Gate, Seat, Shared, Trace, Viewed,
+};
 use silt_disk::Disk;
 use silt_event::Refusal;
 use silt_inbox::{Inbox, InboxId, Taker};
@@ -82,6 +86,27 @@ impl<D: Disk, T: Trace, N: DeskId + InboxId + LogId> Lane<D, T, N> {
     }
 }
 
+// The store of one shard, and the log of its calls.
+#[derive(Drop)]
+struct LoggedStore<D: Disk> {
+    core: Core<D>,
+    log: CallLog,
+}
+
+// These stores, in their order, each with a log of no calls. None if out of memory.
+fn with_logs<D: Disk>(alloc: Global, cores: Vec<Core<D>>) -> Option<Vec<LoggedStore<D>>>
+    ensures count { IfSome result (λ stores. vec_len stores ≡ vec_len cores) }
+    ensures cores { IfSome result (λ stores. map (λ store. store.core) stores.items ≡ cores.items) }
+    ensures logs { IfSome result (λ stores. AreNewLogs (map (λ store. store.log) stores.items)) }
+{
+    let mut stores = list_for(alloc, cores.len())?;
+    for core in cores {
+        let log = CallLog::new(stores.len() as u64);
+        stores.push_reserved(LoggedStore { core, log });
+    }
+    Some(stores)
+}
+
 // The desk of one shard, and its workers.
 #[derive(Drop)]
 struct Staff<D: Disk, T: Trace, N: DeskId + LogId> {
@@ -89,12 +114,15 @@ struct Staff<D: Disk, T: Trace, N: DeskId + LogId> {
     workers: Workers<D, T, N>,
 }
 
-impl<D: Disk, N: DeskId + LogId> Staff<D, Count, N> {
+impl<D: Disk, N: DeskId + LogId + Anchor> Staff<D, Anchored<Count, N>, N> {
     // Of this store. None if out of memory.
-    fn new(alloc: Global, core: Core<D>) -> Option<Staff<D, Count, N>>
-        requires { has_books N.seats ≡ false }
+    fn new(alloc: Global, store: LoggedStore<D>) -> Option<Staff<D, Anchored<Count, N>, N>>
+        requires books { has_books N.seats ≡ false }
+        requires named { IsNamedFor D.Disk N.first N.calls store.core store.log }
     {
-        match Desk::unbooked(alloc, core, Count::new(), WORKERS) {
+        let LoggedStore { core, log } = store;
+        let trace = Anchored::<Count, N>::new(&core, Count::new(), log);
+        match Desk::unbooked(alloc, core, trace, WORKERS) {
             Ok((desk, seats)) => Staff::seated(alloc, desk, seats),
             Err(_) => None,
         }
@@ -102,9 +130,9 @@ impl<D: Disk, N: DeskId + LogId> Staff<D, Count, N> {
 
     fn seated(
         alloc: Global,
-        desk: Desk<D, Count, N>,
+        desk: Desk<D, Anchored<Count, N>, N>,
         seats: Vec<Seat<N>>,
-    ) -> Option<Staff<D, Count, N>> {
+    ) -> Option<Staff<D, Anchored<Count, N>, N>> {
         match Workers::new(alloc, seats) {
             Some(workers) => Some(Staff { desk, workers }),
             None => None,
@@ -112,14 +140,23 @@ impl<D: Disk, N: DeskId + LogId> Staff<D, Count, N> {
     }
 }
 
-impl<D: Disk, N: DeskId + InboxId + LogId> Shard<D, Count, N> {
+impl<D: Disk, N: DeskId + InboxId + LogId + Anchor> Shard<D, Anchored<Count, N>, N> {
     // A shard with this store, and its crew. None if out of memory.
-    fn new(alloc: Global, core: Core<D>) -> Option<(Shard<D, Count, N>, Crew<D, Count, N>)>
+    fn new(
+        alloc: Global,
+        store: LoggedStore<D>,
+    ) -> Option<
+        (
+            Shard<D, Anchored<Count, N>, N>,
+            Crew<D, Anchored<Count, N>, N>,
+        ),
+    >
         requires desk { has_books N.seats ≡ false }
         requires inbox { has_books N.feeders ≡ false }
+        requires named { IsNamedFor D.Disk N.first N.calls store.core store.log }
     {
-        let value_len = core.geometry().value_len() as usize;
-        match Staff::new(alloc, core) {
+        let value_len = store.core.geometry().value_len() as usize;
+        match Staff::new(alloc, store) {
             Some(staff) => Shard::behind(Lane::new(alloc), staff, value_len),
             None => None,
         }
@@ -127,10 +164,15 @@ impl<D: Disk, N: DeskId + InboxId + LogId> Shard<D, Count, N> {
 
     // A shard with this staff behind the lane, if there is one.
     fn behind(
-        lane: Option<Lane<D, Count, N>>,
-        staff: Staff<D, Count, N>,
+        lane: Option<Lane<D, Anchored<Count, N>, N>>,
+        staff: Staff<D, Anchored<Count, N>, N>,
         value_len: usize,
-    ) -> Option<(Shard<D, Count, N>, Crew<D, Count, N>)> {
+    ) -> Option<
+        (
+            Shard<D, Anchored<Count, N>, N>,
+            Crew<D, Anchored<Count, N>, N>,
+        ),
+    > {
         let Some(
             Lane {
                 inbox,
@@ -170,17 +212,18 @@ struct Shards<D: Disk, T: Trace, N: DeskId + InboxId + LogId> {
     crews: Vec<Crew<D, T, N>>,
 }
 
-impl<D: Disk, N: DeskId + InboxId + LogId> Shards<D, Count, N> {
+impl<D: Disk, N: DeskId + InboxId + LogId + Anchor> Shards<D, Anchored<Count, N>, N> {
     // A shard for each of these stores. None if out of memory.
-    fn new(alloc: Global, cores: Vec<Core<D>>) -> Option<Shards<D, Count, N>>
+    fn new(alloc: Global, stores: Vec<LoggedStore<D>>) -> Option<Shards<D, Anchored<Count, N>, N>>
         requires desk { has_books N.seats ≡ false }
         requires inbox { has_books N.feeders ≡ false }
-        ensures { IfSome result (λ made. vec_len made.shards ≡ vec_len cores) }
+        requires named { All (λ store. IsNamedFor D.Disk N.first N.calls store.core store.log) stores.items }
+        ensures { IfSome result (λ made. vec_len made.shards ≡ vec_len stores) }
     {
-        let mut shards = list_for(alloc, cores.len())?;
-        let mut crews = list_for(alloc, cores.len())?;
-        for core in cores {
-            let (shard, crew) = Shard::new(alloc, core)?;
+        let mut shards = list_for(alloc, stores.len())?;
+        let mut crews = list_for(alloc, stores.len())?;
+        for store in stores {
+            let (shard, crew) = Shard::new(alloc, store)?;
             shards.push_reserved(shard);
             crews.push_reserved(crew);
         }
@@ -202,7 +245,7 @@ impl<L: Listens + Sync, G: Gate + Sync, C: Cares, R: Threads + Wait + Clock + Sy
     /// the calls.
     ///
     /// Gives the disks of the shards back, in their order, and the status: 0 after the last session, 1 if nothing is served or the
-    /// network fails. Out of memory for the threads' state, it gives no disks.
+    /// network fails. Each disk is left by calls that lead there from its store. Out of memory for the threads' state, it gives no disks.
     ///
     /// # Errors
     ///
@@ -216,11 +259,18 @@ impl<L: Listens + Sync, G: Gate + Sync, C: Cares, R: Threads + Wait + Clock + Sy
         requires shards { IsShardCount (vec_len cores) }
         ensures served { result.1 ≡ Ok 0 → ServesSetAt (L.has_port self.now.listener.now) D.Disk (vec_len cores) result.0.items (W.contents out.old) (W.contents out.new) }
         ensures count { (result.0.items ≡ []) ⊎ (vec_len result.0 ≡ vec_len cores) }
+        ensures led { LeavesEach D.Disk cores.items result.0.items }
         ensures printed { IfOk result.1 (IsStatus (BreaksServing (L.has_port self.now.listener.now) (W.contents out.old) (W.contents out.new))) }
         ensures left { All (λ disk. (shape : Shape) × LeavesBegun (D.content disk) shape) result.0.items }
     {
         let log = LogStart::new();
-        self.serve_named::<D, Brand, W>(cores, log, out)
+        match with_logs(self.alloc, cores) {
+            Some(stores) => self.serve_named::<D, Brand, W>(stores, log, out),
+            None => (
+                Vec::new(self.alloc),
+                refuse(self.alloc, &Refusal::<()>::NoMemory, out),
+            ),
+        }
     }
 }
 
@@ -244,19 +294,24 @@ impl<D: Disk, T: Trace, N: DeskId> EndRoom<D, T, N> {
     }
 }
 
-// The desks of these shards, in their order.
-fn desks_of<D: Disk, T: Trace, N: DeskId + InboxId + LogId>(
-    shards: Vec<Shard<D, T, N>>,
-    room: Vec<Desk<D, T, N>>,
-) -> Vec<Desk<D, T, N>>
+// The desks of these shards, in their order. None if one is that of another shard than that of its place: this never happens, and if it
+// did, no disk would come back.
+fn desks_of<D: Disk, T: Trace, N: DeskId + InboxId + LogId + Anchor>(
+    shards: Vec<Shard<D, Anchored<T, N>, N>>,
+    room: Vec<Desk<D, Anchored<T, N>, N>>,
+) -> Option<Vec<Desk<D, Anchored<T, N>, N>>>
     requires { (room.items ≡ []) × (vec_len shards ≤ vec_capacity room) }
-    ensures { vec_len result ≡ vec_len shards }
+    ensures { IfSome result (λ desks. (vec_len desks ≡ vec_len shards) × AreInPlace (map (λ desk. desk.trace) desks.items)) }
 {
     let mut desks = room;
     for shard in shards {
-        desks.push_reserved(shard.desk.into_inner());
+        let desk = shard.desk.into_inner();
+        if desk.trace().shard() != desks.len() as u64 {
+            return None;
+        }
+        desks.push_reserved(desk);
     }
-    desks
+    Some(desks)
 }
 
 // How many calls are recorded at these desks, modulo 2^64.
@@ -271,13 +326,18 @@ fn calls_at<D: Disk, T: Trace, N: DeskId>(desks: &[Desk<D, T, N>]) -> u64
 }
 
 // The disks of these desks, in their order.
-fn disks_of<D: Disk, T: Trace, N: DeskId>(desks: Vec<Desk<D, T, N>>, room: Vec<D>) -> Vec<D>
+fn disks_of<D: Disk, T: Trace, N: DeskId + Anchor>(
+    desks: Vec<Desk<D, Anchored<T, N>, N>>,
+    room: Vec<D>,
+) -> Vec<D>
     requires { (room.items ≡ []) × (vec_len desks ≤ vec_capacity room) }
     ensures count { vec_len result ≡ vec_len desks }
+    ensures led { AllZip (λ desk disk. IsLedFrom D.Disk N.first T.counts desk.core desk.trace disk) desks.items result.items }
     ensures left { All (λ disk. (shape : Shape) × LeavesBegun (D.content disk) shape) result.items }
 {
     let mut disks = room;
     for desk in desks {
+        let _known = desk.trace(); // it agrees with the store
         disks.push_reserved(desk.close());
     }
     disks
@@ -322,18 +382,24 @@ fn parts_of<D: Disk, T: Trace, N: DeskId + InboxId + LogId>(
 }
 
 // The shards of these stores, and memory for what is left of them in the end. None if out of memory.
-fn make<D: Disk, N: DeskId + InboxId + LogId>(
+fn make<D: Disk, N: DeskId + InboxId + LogId + Anchor>(
     alloc: Global,
-    cores: Vec<Core<D>>,
-) -> Option<(Shards<D, Count, N>, EndRoom<D, Count, N>)>
+    stores: Vec<LoggedStore<D>>,
+) -> Option<
+    (
+        Shards<D, Anchored<Count, N>, N>,
+        EndRoom<D, Anchored<Count, N>, N>,
+    ),
+>
     requires desk { has_books N.seats ≡ false }
     requires inbox { has_books N.feeders ≡ false }
-    ensures count { IfSome result (λ all. vec_len all.0.shards ≡ vec_len cores) }
+    requires named { All (λ store. IsNamedFor D.Disk N.first N.calls store.core store.log) stores.items }
+    ensures count { IfSome result (λ all. vec_len all.0.shards ≡ vec_len stores) }
     ensures none { IfSome result (λ all. (all.1.desks.items ≡ []) × (all.1.disks.items ≡ [])) }
-    ensures room { IfSome result (λ all. (vec_len cores ≤ vec_capacity all.1.desks) × (vec_len cores ≤ vec_capacity all.1.disks)) }
+    ensures room { IfSome result (λ all. (vec_len stores ≤ vec_capacity all.1.desks) × (vec_len stores ≤ vec_capacity all.1.disks)) }
 {
-    let room = EndRoom::new(alloc, cores.len())?;
-    let made = Shards::new(alloc, cores)?;
+    let room = EndRoom::new(alloc, stores.len())?;
+    let made = Shards::new(alloc, stores)?;
     Some((made, room))
 }
 
@@ -344,23 +410,25 @@ impl<L: Listens + Sync, G: Gate + Sync, C: Cares, R: Threads + Wait + Clock + Sy
     C,
     R,
 > {
-    // Serves the stores, with the log of this name.
-    fn serve_named<D: Viewed, N: DeskId + InboxId + LogId + Send + Sync, W: Write>(
+    // Serves the stores, with the names of their logs and of that of the jobs.
+    fn serve_named<D: Viewed, N: DeskId + InboxId + LogId + Anchor + Send + Sync, W: Write>(
         &self,
-        cores: Vec<Core<D>>,
+        stores: Vec<LoggedStore<D>>,
         log: LogStart,
         out: &mut W,
     ) -> (Vec<D>, io::Result<u8>)
         requires books { (has_books N.seats ≡ false) × (has_books N.feeders ≡ false) }
         requires log { log ≡ N.log }
-        requires gates { vec_len cores ≤ length self.now.gates.now }
-        requires shards { IsShardCount (vec_len cores) }
-        ensures served { result.1 ≡ Ok 0 → ServesSetAt (L.has_port self.now.listener.now) D.Disk (vec_len cores) result.0.items (W.contents out.old) (W.contents out.new) }
-        ensures count { (result.0.items ≡ []) ⊎ (vec_len result.0 ≡ vec_len cores) }
+        requires named { All (λ store. IsNamedFor D.Disk N.first N.calls store.core store.log) stores.items }
+        requires gates { vec_len stores ≤ length self.now.gates.now }
+        requires shards { IsShardCount (vec_len stores) }
+        ensures served { result.1 ≡ Ok 0 → ServesSetAt (L.has_port self.now.listener.now) D.Disk (vec_len stores) result.0.items (W.contents out.old) (W.contents out.new) }
+        ensures count { (result.0.items ≡ []) ⊎ (vec_len result.0 ≡ vec_len stores) }
+        ensures led { EachFrom D.Disk N.first result.0.items }
         ensures printed { IfOk result.1 (IsStatus (BreaksServing (L.has_port self.now.listener.now) (W.contents out.old) (W.contents out.new))) }
         ensures left { All (λ disk. (shape : Shape) × LeavesBegun (D.content disk) shape) result.0.items }
     {
-        match make::<D, N>(self.alloc, cores) {
+        match make::<D, N>(self.alloc, stores) {
             Some((made, room)) => self.serve_made(made, room, log.named(), out),
             None => (
                 Vec::new(self.alloc),
@@ -373,12 +441,12 @@ impl<L: Listens + Sync, G: Gate + Sync, C: Cares, R: Threads + Wait + Clock + Sy
     fn serve_made<
         D: Viewed,
         T: Trace + Send + Sync,
-        N: DeskId + InboxId + LogId + Send + Sync,
+        N: DeskId + InboxId + LogId + Anchor + Send + Sync,
         W: Write,
     >(
         &self,
-        made: Shards<D, T, N>,
-        room: EndRoom<D, T, N>,
+        made: Shards<D, Anchored<T, N>, N>,
+        room: EndRoom<D, Anchored<T, N>, N>,
         log: JobLog<N>,
         out: &mut W,
     ) -> (Vec<D>, io::Result<u8>)
@@ -387,33 +455,38 @@ impl<L: Listens + Sync, G: Gate + Sync, C: Cares, R: Threads + Wait + Clock + Sy
         requires gates { vec_len made.shards ≤ length self.now.gates.now }
         requires shards { IsShardCount (vec_len made.shards) }
         ensures served { result.1 ≡ Ok 0 → ServesSetAt (L.has_port self.now.listener.now) D.Disk (vec_len made.shards) result.0.items (W.contents out.old) (W.contents out.new) }
-        ensures count { vec_len result.0 ≡ vec_len made.shards }
+        ensures count { (result.0.items ≡ []) ⊎ (vec_len result.0 ≡ vec_len made.shards) }
+        ensures led { EachFrom D.Disk N.first result.0.items }
         ensures printed { IfOk result.1 (IsStatus (BreaksServing (L.has_port self.now.listener.now) (W.contents out.old) (W.contents out.new))) }
         ensures left { All (λ disk. (shape : Shape) × LeavesBegun (D.content disk) shape) result.0.items }
     {
         let EndRoom { desks, disks } = room;
         let (desks, status) = self.serve_shards(made, log, desks, out);
-        (disks_of(desks, disks), status)
+        match desks {
+            Some(desks) => (disks_of(desks, disks), status),
+            None => (disks, status),
+        }
     }
 
-    // Writes the head, serves the shards, and writes the last lines. Gives the desks of the shards back.
+    // Writes the head, serves the shards, and writes the last lines. Gives the desks of the shards back, in their order.
     fn serve_shards<
         D: Viewed,
         T: Trace + Send + Sync,
-        N: DeskId + InboxId + LogId + Send + Sync,
+        N: DeskId + InboxId + LogId + Anchor + Send + Sync,
         W: Write,
     >(
         &self,
-        made: Shards<D, T, N>,
+        made: Shards<D, Anchored<T, N>, N>,
         log: JobLog<N>,
-        room: Vec<Desk<D, T, N>>,
+        room: Vec<Desk<D, Anchored<T, N>, N>>,
         out: &mut W,
-    ) -> (Vec<Desk<D, T, N>>, io::Result<u8>)
+    ) -> (Option<Vec<Desk<D, Anchored<T, N>, N>>>, io::Result<u8>)
         requires room { (room.items ≡ []) × (vec_len made.shards ≤ vec_capacity room) }
         requires gates { vec_len made.shards ≤ length self.now.gates.now }
         requires shards { IsShardCount (vec_len made.shards) }
-        ensures count { vec_len result.0 ≡ vec_len made.shards }
-        ensures served { result.1 ≡ Ok 0 → PrintsAllServed (L.has_port self.now.listener.now) T.counts (map (λ desk. desk.trace) result.0.items) (W.contents out.old) (W.contents out.new) }
+        ensures given { IfSome result.0 (λ desks. (vec_len desks ≡ vec_len made.shards) × AreInPlace (map (λ desk. desk.trace) desks.items)) }
+        ensures served { result.1 ≡ Ok 0 → IsSomeAnd result.0 (λ desks. PrintsAllServed (L.has_port self.now.listener.now)
+            (λ state. T.counts state.trace) (map (λ desk. desk.trace) desks.items) (W.contents out.old) (W.contents out.new)) }
         ensures printed { IfOk result.1 (IsStatus (BreaksServing (L.has_port self.now.listener.now) (W.contents out.old) (W.contents out.new))) }
     {
         let Shards { shards, crews } = made;
@@ -426,31 +499,34 @@ impl<L: Listens + Sync, G: Gate + Sync, C: Cares, R: Threads + Wait + Clock + Sy
         }
     }
 
-    // Serves the shards once the head is written, and writes the last lines. Gives the desks of the shards back.
+    // Serves the shards once the head is written, and writes the last lines. Gives the desks of the shards back, in their order.
     fn serve_begun<
         D: Viewed,
         T: Trace + Send + Sync,
-        N: DeskId + InboxId + LogId + Send + Sync,
+        N: DeskId + InboxId + LogId + Anchor + Send + Sync,
         W: Write,
     >(
         &self,
-        shards: Vec<Shard<D, T, N>>,
-        crews: Vec<Crew<D, T, N>>,
+        shards: Vec<Shard<D, Anchored<T, N>, N>>,
+        crews: Vec<Crew<D, Anchored<T, N>, N>>,
         log: JobLog<N>,
-        room: Vec<Desk<D, T, N>>,
+        room: Vec<Desk<D, Anchored<T, N>, N>>,
         out: &mut W,
-    ) -> (Vec<Desk<D, T, N>>, io::Result<u8>)
+    ) -> (Option<Vec<Desk<D, Anchored<T, N>, N>>>, io::Result<u8>)
         requires room { (room.items ≡ []) × (vec_len shards ≤ vec_capacity room) }
         requires gates { vec_len shards ≤ length self.now.gates.now }
         requires shards { IsShardCount (vec_len shards) }
-        ensures count { vec_len result.0 ≡ vec_len shards }
-        ensures calls { result.1 ≡ Ok 0 → PrintsAllCalls T.counts (map (λ desk. desk.trace) result.0.items) (W.contents out.old) (W.contents out.new) }
+        ensures given { IfSome result.0 (λ desks. (vec_len desks ≡ vec_len shards) × AreInPlace (map (λ desk. desk.trace) desks.items)) }
+        ensures calls { result.1 ≡ Ok 0 → IsSomeAnd result.0 (λ desks. PrintsAllCalls
+            (λ state. T.counts state.trace) (map (λ desk. desk.trace) desks.items) (W.contents out.old) (W.contents out.new)) }
         ensures printed { IfOk result.1 (IsStatus (Appends (W.contents out.old) (W.contents out.new) no_memory_text ⊎ Appends (W.contents out.old) (W.contents out.new) network_text)) }
     {
         let ended = self.run(shards.as_slice(), crews, &log);
-        let desks = desks_of(shards, room);
+        let Some(desks) = desks_of(shards, room) else {
+            return (None, refuse(self.alloc, &Refusal::<()>::NoMemory, out));
+        };
         let status = end(self.alloc, ended, desks.as_slice(), out);
-        (desks, status)
+        (Some(desks), status)
     }
 
     // Runs the threads of the shards beside the sessions, until these have ended and all their requests are done. None if out of memory,

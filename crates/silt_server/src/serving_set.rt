@@ -1,10 +1,10 @@
 // What the threads of a server of a set share: what those of each shard share, in the order of the shards.
-ghost use Rattle.std.specs.Prelude.{◌≡◌, All, IfOk, IfSome, List, length, true, vec_len};
+ghost use Rattle.std.specs.Prelude.{◌≡◌, ◌∷◌, [], All, IfOk, IfSome, List, length, true, vec_len};
 ghost use Rattle.std.specs.List.{AllZip};
 ghost use Rattle.silt_event.specs.declared.event.Event.{Event as EventOf};
 ghost use Rattle.silt_session.specs.Handing.{AreAsked};
 ghost use Rattle.silt_session.specs.Sessions.{IsAnswer};
-ghost use Rattle.silt_session.specs.Tolds.{AsksBehind, ToldState};
+ghost use Rattle.silt_session.specs.Tolds.{AreInOrder, AsksBehind, ToldState};
 ghost use Rattle.silt_shards.specs.Routing.{IsShardCount};
 ghost use Rattle.silt_store_set.specs.CoreState.{CoreState};
 ghost use Rattle.silt_store_set.specs.Facts.{facts_of};
@@ -70,14 +70,16 @@ impl<D: Disk, T: Trace, N: DeskId + InboxId + LogId, G: Gate, R: Wait + Clock> S
         for at in sessions {
             shards.push_reserved(AskAheadBy {
                 one: move |event: Event| -> Result<Reply<()>, Unanswered>
-                    ensures { IfOk result (λ reply. (told : ToldState) × AsksBehind at.entry.now.told told × IsAnswer D.Disk T.Trace told at.entry.now.session.settles_gets event reply) }
+                    ensures { IfOk result (λ reply. (told : ToldState) × AsksBehind at.entry.now.told told × IsAnswer D.Disk T.Trace told at.entry.now.session.settles_gets event reply
+                        × AreInOrder told (event ∷ []) (reply ∷ [])) }
                 { at.session.answer(event, &mut at.told.again()) },
                 begin: move |events: Vec<Event>| -> Result<AskedEvents<D, T, N>, Unanswered>
                     ensures { IfOk result (AreAsked D.Disk at.entry.now.session.settles_gets T.Trace at.entry.now.told events.items) }
                 { at.session.begin(events, &at.told) },
                 finish: move |asked: AskedEvents<D, T, N>| -> Result<Vec<Reply<()>>, Unanswered>
                     ensures { (events : List EventOf) → AreAsked D.Disk at.entry.now.session.settles_gets T.Trace at.entry.now.told events asked
-                        → IfOk result (λ replies. (told : ToldState) × AsksBehind at.entry.now.told told × AllZip (IsAnswer D.Disk T.Trace told at.entry.now.session.settles_gets) events replies.items) }
+                        → IfOk result (λ replies. (told : ToldState) × AsksBehind at.entry.now.told told × AllZip (IsAnswer D.Disk T.Trace told at.entry.now.session.settles_gets) events replies.items
+                        × AreInOrder told events replies.items) }
                 {
                     match at.session.finish(asked) {
                         Ok((replies, _)) => Ok(replies),

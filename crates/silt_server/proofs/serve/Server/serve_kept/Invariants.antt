@@ -12,4 +12,4 @@ abbrev pub ghosts-serve_traced-N-LogId : goal.ghosts-serve_traced-N-LogId
 ghosts-serve_traced-N-LogId g a = record { log = a.blanks.log }
 
 abbrev pub ghosts-serve_traced-N-Anchor : goal.ghosts-serve_traced-N-Anchor
-ghosts-serve_traced-N-Anchor g a = record { first = Some (seen g.D.Disk a.core); calls = a.blanks.history.book }
+ghosts-serve_traced-N-Anchor g a = record { first = λ shard. Some (seen g.D.Disk a.core); calls = λ shard. a.blanks.history.book }

@@ -14,7 +14,7 @@ returns-in-Some g c =
         state = desk.trace;
         is = sym c.close-in-Ok.ensures.disk;
         agreed = c.trace-known-in-Ok.ensures.agrees.0;
-        past = subst (λ named. HasPast named g.T.Trace.counts desk.trace (seen g.D.Disk desk.core)) c.requires.trace.0 c.trace-known-in-Ok.ensures.agrees.1;
+        past = subst (λ named. HasPast named g.T.Trace.counts desk.trace (seen g.D.Disk desk.core)) (c.requires.trace.0 desk.trace.shard) c.trace-known-in-Ok.ensures.agrees.1;
         printed = c.serve_desk-desk.ensures.served;
       };
       printed = c.serve_desk-desk.ensures.printed;
@@ -29,7 +29,7 @@ returns-in_default-clause-traced g c =
       state = desk.trace;
       is = sym c.close.ensures.disk;
       agreed = c.trace-known.ensures.agrees.0;
-      past = subst (λ named. HasPast named g.T.Trace.counts desk.trace (seen g.D.Disk desk.core)) c.requires.trace.0 c.trace-known.ensures.agrees.1;
+      past = subst (λ named. HasPast named g.T.Trace.counts desk.trace (seen g.D.Disk desk.core)) (c.requires.trace.0 desk.trace.shard) c.trace-known.ensures.agrees.1;
       printed = never_done _ c.refuse-status.result c.refuse-status.ensures;
     }
 
@@ -41,6 +41,6 @@ returns-in-Err-clause-traced g c =
       state = state;
       is = sym (c.close-in-Err.ensures.disk ∙ ap (λ (core : CoreState _). core.disk) c.in-Err.ensures.err.0);
       agreed = c.new-trace.ensures.agrees;
-      past = subst (λ named. HasPast named g.T.Trace.counts state (seen g.D.Disk c.args.core)) c.requires.trace.0 c.new-trace.ensures.past;
+      past = subst (λ named. HasPast named g.T.Trace.counts state (seen g.D.Disk c.args.core)) (c.requires.trace.0 state.shard) c.new-trace.ensures.past;
       printed = never_done _ c.refuse-status-in-Err.result c.refuse-status-in-Err.ensures;
     }

@@ -1,4 +1,6 @@
-use Rattle.std.specs.Prelude.{◌^◌}
+use Rattle.std.specs.Prelude.{◌^◌, map}
+use Rattle.silt_server.proofs.Sets.{book_at}
+use Rattle.silt_server.specs.Serving.{seen_at}
 use Rattle.silt_server.proofs.serve_set.SetServer.serve.Given as goal
 
 -- no books are kept of desks and inboxes
@@ -10,3 +12,7 @@ ghosts-serve_named-N-InboxId g a = record { put_name = 0; taken_name = 0; feeder
 
 abbrev pub ghosts-serve_named-N-LogId : goal.ghosts-serve_named-N-LogId
 ghosts-serve_named-N-LogId g a = record { log = a.log }
+
+-- the names of each shard are those of the store and of the log at its place
+abbrev pub ghosts-serve_named-N-Anchor : goal.ghosts-serve_named-N-Anchor
+ghosts-serve_named-N-Anchor g a = record { first = seen_at g.D.Disk (map (λ store. store.core) a.stores.items); calls = book_at (map (λ store. store.log) a.stores.items) }

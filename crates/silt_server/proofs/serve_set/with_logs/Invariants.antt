@@ -1,0 +1,16 @@
+use Rattle.std.proofs.Common.{◌≡◌, ◌≤◌, ◌+◌, ◌++◌, length, map}
+use Rattle.std.specs.Prelude.{vec_capacity, vec_len}
+use Rattle.std.specs.Vec.Iter.{into_iter_items}
+use Rattle.silt_server.specs.Serving.{AreNewLogs}
+use Rattle.silt_server.proofs.serve_set.with_logs.Given as goal
+
+-- each store so far has its log, and there is room for the others
+abbrev pub invariant-loop-core : goal.invariant-loop-core
+invariant-loop-core g l = record {
+  can : (goal.iterator-loop-core g).can_next l.core-iterator;
+  finite : (goal.iterator-loop-core g).is_finite l.core-iterator;
+  made : vec_len l.stores + length (into_iter_items l.core-iterator) ≡ length (into_iter_items l.initial.core-iterator);
+  room : vec_len l.stores + length (into_iter_items l.core-iterator) ≤ vec_capacity l.stores;
+  cores : map (λ store. store.core) l.stores.items ++ into_iter_items l.core-iterator ≡ into_iter_items l.initial.core-iterator;
+  logs : AreNewLogs (map (λ store. store.log) l.stores.items);
+}
