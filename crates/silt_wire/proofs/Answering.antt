@@ -1,26 +1,19 @@
 -- Answering lines in two parts is answering them at once, and a beginning of a part is a beginning of the whole.
-use Rattle.std.proofs.Common.{map, IfOk, OnErr, ◌≡◌, ◌-◌, arith, ◌+◌, ◌≤◌, take, drop, take-append-drop, flat_map, inl, inr, ℕ, true, false, cond, Result, Ok}
-use Rattle.std.proofs.Common.{Err, List, [], ◌∷◌, ◌++◌, length, refl, sym, ap, ◌∙◌, append_assoc, Option, Some, None, is_some, subst}
+use Rattle.silt_wire.proofs.Common.{map, ◌≡◌, ◌-◌, arith, ◌+◌, ◌≤◌, take, drop, take-append-drop, flat_map, inl, inr, ℕ, true, false, cond, Result, Ok, Err, List, [], ◌∷◌, ◌++◌, length, refl, sym}
+use Rattle.silt_wire.proofs.Common.{ap, ◌∙◌, append_assoc, Option, Some, None, is_some, subst, append-nil, take_all, Appends, Consumes, Keeps, Event, Answer, AnswersQuery, Query, does, Tail}
+use Rattle.silt_wire.proofs.Common.{LineFault, SessionEnd, End, ReadFault, NoMemory, tail_after, tail_asked, HoldsBytes, LineBuffer, Parses, IsBeginning, asks, line_of, AnswersAll}
+use Rattle.silt_wire.proofs.Common.{AnswersSome, Ends, AnswersEach, PlainReply, lines_after, rest_after}
+use Rattle.std.proofs.Common.{IfOk, OnErr}
 use Rattle.std.proofs.lemmas.Grind.{flat_map-append}
-use Rattle.std.proofs.lemmas.List.{append-nil, length-drop, map-append, take_all}
+use Rattle.std.proofs.lemmas.List.{length-drop, map-append}
 use Rattle.std.proofs.Math.Seq.{take-add}
-use Rattle.std.specs.Io.KnownBytes.{Appends, Consumes, Keeps}
-use Rattle.silt_event.specs.declared.event.Event.{Event}
 use Rattle.silt_event.specs.declared.admin.Admin.{Admin}
 use Rattle.silt_event.specs.declared.admin.AdminReply.{AdminReply}
-use Rattle.silt_event.specs.Queries.{Answer, AnswersQuery, Query, admin, does, replies, says}
-use Rattle.silt_wire.specs.declared.batch.Tail.{Tail}
-use Rattle.silt_wire.specs.declared.line.LineFault.{LineFault}
-use Rattle.silt_wire.specs.declared.sessions.SessionEnd.{SessionEnd}
-use Rattle.silt_wire.specs.declared.sessions.SessionEnd.TheVariants.{End, ReadFault, WriteFault, NoMemory}
-use Rattle.silt_wire.specs.Batches.{event_query, tail_after, tail_asked, valid}
-use Rattle.silt_wire.specs.LineBuffer.{HoldsBytes}
-use Rattle.silt_wire.specs.declared.line_buffer.LineBuffer.{LineBuffer}
-use Rattle.silt_wire.specs.Lines.{Parses, admin_of, asked_by, is_blank, query_by, query_with, with_event}
+use Rattle.silt_event.specs.Queries.{admin, replies, says}
+use Rattle.silt_wire.specs.Batches.{event_query, valid}
+use Rattle.silt_wire.specs.Lines.{admin_of, asked_by, is_blank, query_by, query_with, with_event}
 use Rattle.silt_wire.specs.Replies.{fault_line}
-use Rattle.silt_wire.specs.Sessions.{IsBeginning, answer_lines, asks, queries_of, line_of, texts_of, AnswersAll, AnswersSome, Ends, IsCut, SessionState}
-use Rattle.silt_event.specs.Events.{AnswersEach, PlainReply}
-use Rattle.silt_wire.specs.Sessions.{lines_after, rest_after}
+use Rattle.silt_wire.specs.Sessions.{answer_lines, queries_of, texts_of, IsCut, SessionState}
 use Rattle.silt_wire.proofs.Streams.{rest_after-append, lines_after-append, Appends-append, Appends-keeps, Appends-none}
 
 -- ---- beginnings
@@ -95,12 +88,7 @@ pub gathers-part : (v : ℕ) (p bytes rest : List ℕ) (done count : ℕ) (start
 gathers-part v p bytes rest done count start before after is h k =
     let front = take done bytes in
     let more = take count (drop done bytes) in
-    ap (λ l. start ++ asks v (lines_after p l)) (take-add done count bytes)
-    ∙ ap (λ l. start ++ l) (asks_after-append v p front more)
-    ∙ sym (append_assoc start (asks v (lines_after p front)) (asks v (lines_after (rest_after p front) more)))
-    ∙ ap (λ l. l ++ asks v (lines_after (rest_after p front) more)) h
-    ∙ ap (λ l. before ++ asks v (lines_after (rest_after p front) (take count l))) (sym is)
-    ∙ k
+    cc (take-add done count bytes, asks_after-append v p front more, append_assoc start (asks v (lines_after p front)) (asks v (lines_after (rest_after p front) more)))
 
 -- what was gathered of a part is a beginning of what the whole asks for
 pub gathers-begins : (v : ℕ) (p bytes : List ℕ) (count : ℕ) (start after more : List (Result Query LineFault))
@@ -109,11 +97,7 @@ gathers-begins v p bytes count start after more h =
     let front = take count bytes in
     let rest = asks v (lines_after (rest_after p front) (drop count bytes)) in (
       more ++ rest,
-      sym (append_assoc after more rest)
-          ∙ ap (λ l. l ++ rest) (sym h)
-          ∙ append_assoc start (asks v (lines_after p front)) rest
-          ∙ ap (λ l. start ++ l) (sym (asks_after-append v p front (drop count bytes)))
-          ∙ ap (λ l. start ++ asks v (lines_after p l)) (take-append-drop count bytes),
+      cc (append_assoc after more rest, append_assoc start (asks v (lines_after p front)) rest, asks_after-append v p front (drop count bytes), take-append-drop count bytes),
     )
 
 -- if nothing was gathered before
@@ -258,8 +242,7 @@ module _ {A : Type 0} (answers : A → A → Query → Answer → Type 0) where
       → AnswersSome answers (asks n (lines_after [] read)) old.answerer new.answerer old.contents new.contents → Ends answers end n old new
   Ends-cut End n old new read cut h k = absurd cut
   Ends-cut ReadFault n old new read cut h k = absurd cut
-  Ends-cut WriteFault n old new read cut h k = (read, h, k)
-  Ends-cut NoMemory n old new read cut h k = (read, h, k)
+  Ends-cut end n old new read cut h k = (read, h, k)
 
   pub Ends-unbegun : (n : ℕ) (state : SessionState A) → Ends answers NoMemory n state state
   Ends-unbegun n state = ([], Consumes-none state.remaining, some-none [] state.answerer state.contents)

@@ -1,5 +1,5 @@
 -- Names beside numbers.
-use Rattle.std.proofs.Common.{◌≡◌, Bor, List, [], ◌∷◌, ap, map, refl, ℕ}
+use Rattle.silt_wire.proofs.Common.{◌≡◌, Bor, List, [], ◌∷◌, ap, map, refl, ℕ}
 use Rattle.std.specs.List.{zip}
 
 -- the text of each name beside its number

@@ -1,14 +1,12 @@
 -- The words of a line, and what they ask for.
-use Rattle.std.proofs.Common.{◌≡◌, ◌≢◌, ◌<◌, ◌≤◌, ◌==◌, ◌+◌, ℕ, List, [], ◌∷◌, length, take, drop, Option, Some, None, is_some, false, Result, Err, refl, sym, ap, subst, ◌∙◌, inl, arith}
+use Rattle.silt_wire.proofs.Common.{◌≡◌, ◌<◌, ◌≤◌, ◌==◌, ◌+◌, ℕ, List, [], ◌∷◌, length, take, drop, Option, Some, None, is_some, false, Result, Err, refl, sym, ap, subst, ◌∙◌, inl, arith, position}
+use Rattle.silt_wire.proofs.Common.{position_or_len, common_steps, fails_before_first, Event, LineFault, Parses}
+use Rattle.std.proofs.Common.{◌≢◌}
 use Rattle.std.specs.Prelude.{IfNone}
-use Rattle.std.specs.List.{position, position_or_len, slice_split}
-use Rattle.std.proofs.lemmas.Grind.{common_steps}
-use Rattle.std.proofs.lemmas.List.Sums.{fails_before_first}
+use Rattle.std.specs.List.{slice_split}
 use Rattle.std.proofs.lemmas.List.Splits.{slice_split_first, slice_split_none, length-slice_split}
-use Rattle.silt_event.specs.declared.event.Event.{Event}
-use Rattle.silt_wire.specs.declared.line.LineFault.{LineFault}
 use Rattle.silt_wire.specs.declared.line.LineFault.TheVariants.{BadLine}
-use Rattle.silt_wire.specs.Lines.{Parses, words_of, bare_event, key_event, value_event, swap_event, event_of}
+use Rattle.silt_wire.specs.Lines.{words_of, bare_event, key_event, value_event, swap_event, event_of}
 
 -- the first word ends at the first space, and the other words come after it
 pub words_of-cut : (text : List ℕ) (at : ℕ) → position (λ b. b == 32) text ≡ Some at → words_of text ≡ take at text ∷ words_of (drop (at + 1) text)
@@ -63,8 +61,7 @@ event_of-many len word key old new (next ∷ more) some = refl
 pub words_of-some : (text : List ℕ) → words_of text ≢ []
 words_of-some text e =
     let none : length (words_of text) ≡ 0 = ap length e in
-    let count = length-slice_split (λ b. b == 32) text in
-    absurd (omega arith)
+    absurd (omega (arith, length-slice_split (λ b. b == 32) text))
 
 pub asked-many : (len : ℕ) (text word key rest old most new last next : List ℕ) (result : Result Event LineFault) → words_of text ≡ word ∷ words_of rest
     → words_of rest ≡ key ∷ words_of most → words_of most ≡ old ∷ words_of last → words_of last ≡ new ∷ words_of next → result ≡ Err BadLine

@@ -1,9 +1,10 @@
 -- The number that digits write.
-use Rattle.std.proofs.Common.{◌≡◌, ◌<◌, ◌≤◌, ◌+◌, ◌-◌, ◌*◌, ◌^◌, ◌&&◌, ℕ, zero, suc, List, [], ◌∷◌, length, true, refl, sym, ap, ◌∙◌, take, get_or, arith}
+use Rattle.silt_wire.proofs.Common.{◌≡◌, ◌<◌, ◌≤◌, ◌+◌, ◌-◌, ◌&&◌, ℕ, zero, suc, List, [], ◌∷◌, length, true, refl, sym, ap, ◌∙◌, take, get_or, arith, digits_value}
+use Rattle.std.proofs.Common.{◌*◌, ◌^◌}
 use Rattle.std.specs.Char.{is_ascii_digit, digit_value}
 use Rattle.std.specs.List.{list_all}
 use Rattle.std.specs.Str.{all_ascii_digits}
-use Rattle.std.specs.Str.Parse.{AllDigits, digits_value}
+use Rattle.std.specs.Str.Parse.{AllDigits}
 use Rattle.std.proofs.lemmas.Int.Digits.{digits_value_more}
 use Rattle.std.proofs.lemmas.Str.{digit_value_digit}
 use Rattle.std.proofs.lemmas.Str.Parse.{digits_value-take-le, digits_value_short, digit_from_value, numerals_by_value, tells_all_ascii_digits}
@@ -32,5 +33,4 @@ digit-at (d ∷ ds) (suc i) lt h = digit-at ds i (omega arith) h.1
 pub digits_value-next : (ds : List ℕ) (i : ℕ) → list_all is_ascii_digit ds ≡ true → i < length ds → digits_value 10 (take i ds) * 10 + (get_or ds i 0 - 48) ≡ digits_value 10 (take (i + 1) ds)
 digits_value-next ds i digits lt =
     let digit = digit_value_digit (get_or ds i 0) (digit_from_value (get_or ds i 0) (digit-at ds i lt (AllDigits-from_test ds digits))) in
-    let more = digits_value_more 10 ds i lt in
-    omega arith
+    omega (arith, digits_value_more 10 ds i lt)

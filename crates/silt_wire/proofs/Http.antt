@@ -1,18 +1,15 @@
 -- What a guard passes on, and that a session does nothing for an HTTP request.
-use Rattle.std.proofs.Common.{◌≡◌, ◌⊎◌, ◌==◌, ◌&&◌, ◌+◌, ◌<◌, ◌≤◌, inl, inr, ℕ, suc, zero, Bool, true, false, cond, List, [], ◌∷◌, ◌++◌, length, take, drop}
-use Rattle.std.proofs.Common.{get_or, Option, Some, None, option_map, refl, sym, ap, subst, ◌∙◌, append_assoc, arith, take-append-drop}
+use Rattle.std.proofs.lemmas.Bool.{cases_Bool}
+use Rattle.silt_wire.proofs.Common.{◌≡◌, ◌==◌, ◌&&◌, ◌+◌, ◌<◌, ◌≤◌, inl, inr, ℕ, suc, zero, true, false, cond, List, [], ◌∷◌, ◌++◌, length, take, drop, get_or, Option, Some, None, refl, sym, ap}
+use Rattle.silt_wire.proofs.Common.{subst, ◌∙◌, append_assoc, arith, take-append-drop, common_steps, append-nil, length-take-le, take_all, take_more, Appends, Consumes, AnswersEach, Answer, Query}
+use Rattle.silt_wire.proofs.Common.{is_turned_away, AnswersAll, AnswersSome, Ends, IsBeginning, ServesAll, ServesSome, asks, lines_after, SessionEnd, End, ReadFault}
+use Rattle.std.proofs.Common.{◌⊎◌, Bool, option_map}
 use Rattle.std.specs.Prelude.{IfSome, nat_lt}
-use Rattle.std.proofs.lemmas.Grind.{common_steps}
-use Rattle.std.proofs.lemmas.List.{append-nil, drop_more, length-take-le, take_all, take_more, take-take}
-use Rattle.std.specs.Io.KnownBytes.{Appends, Consumes, IsAtEnd}
-use Rattle.silt_event.specs.Events.{AnswersEach}
-use Rattle.silt_event.specs.Queries.{Answer, Query}
-use Rattle.silt_wire.specs.Http.{Guards, IsHttp, ends_line, handed_on, http_mark, is_passed, is_turned_away, line_after, open_after}
-use Rattle.silt_wire.specs.Sessions.{AnswersAll, AnswersSome, Ends, IsBeginning, ServesAll, ServesSome, asks, lines_after}
+use Rattle.std.proofs.lemmas.List.{drop_more, take-take}
+use Rattle.std.specs.Io.KnownBytes.{IsAtEnd}
+use Rattle.silt_wire.specs.Http.{Guards, IsHttp, ends_line, handed_on, http_mark, is_passed, line_after, open_after}
 use Rattle.silt_wire.specs.declared.http_guard.FirstLine.{FirstLine}
 use Rattle.silt_wire.specs.declared.http_guard.FirstLine.TheVariants.{Open, Passed, Refused}
-use Rattle.silt_wire.specs.declared.sessions.SessionEnd.{SessionEnd}
-use Rattle.silt_wire.specs.declared.sessions.SessionEnd.TheVariants.{End, ReadFault, WriteFault, NoMemory}
 
 -- ---- byte by byte
 
@@ -27,14 +24,12 @@ refused_none [] = refl
 refused_none (b ∷ bytes) = refl
 
 passed_is : (line : FirstLine) → is_passed line ≡ true → line ≡ Passed
-passed_is (Open n) e = absurd (cc)
 passed_is Passed e = refl
-passed_is Refused e = absurd (cc)
+passed_is line e = absurd (cc)
 
 pub refused_is : (line : FirstLine) → is_turned_away line ≡ true → line ≡ Refused
-refused_is (Open n) e = absurd (cc)
-refused_is Passed e = absurd (cc)
 refused_is Refused e = refl
+refused_is line e = absurd (cc)
 
 -- of these bytes and any that follow, this many are passed on, and then what is passed on of the rest
 abbrev pub HandsOn : FirstLine → List ℕ → FirstLine → ℕ → Type 0
@@ -46,19 +41,12 @@ pub hands_last : (first line : FirstLine) (bytes : List ℕ) (at : ℕ) → at <
     → (rest : List ℕ) → handed_on first (bytes ++ rest) ≡ take at bytes ++ handed_on (line_after line (get_or bytes at 0)) rest
 hands_last first line bytes at inside ends so = λ rest.
     let b = get_or bytes at 0 in
-    so rest
-    ∙ ap (λ l. take at bytes ++ handed_on line (l ++ rest)) (drop_more bytes at 0 inside)
-    ∙ ap (λ c. take at bytes ++ cond c [] (b ∷ handed_on (line_after line b) (drop (at + 1) bytes ++ rest))) ends
-    ∙ ap (λ l. take at bytes ++ l) (sym (refused_none rest))
-    ∙ ap (λ l. take at bytes ++ handed_on l rest) (sym (refused_is (line_after line b) ends))
+    cc (so rest, drop_more bytes at 0 inside, refused_none rest, refused_is (line_after line b) ends)
 
 -- the first line had passed
 pub hands_passed : (line : FirstLine) (bytes : List ℕ) → is_passed line ≡ true
     → (rest : List ℕ) → handed_on line (bytes ++ rest) ≡ take (length bytes) bytes ++ handed_on line rest
-hands_passed line bytes is = λ rest.
-    let at = passed_is line is in
-    subst (λ l. handed_on l (bytes ++ rest) ≡ take (length bytes) bytes ++ handed_on l rest) (sym at)
-    (passed_all (bytes ++ rest) ∙ sym (ap (λ l. take (length bytes) bytes ++ l) (passed_all rest) ∙ ap (λ l. l ++ rest) (take_all (length bytes) bytes (omega arith))))
+hands_passed line bytes is = λ rest. cc (passed_is line is, passed_all (bytes ++ rest), passed_all rest, take_all (length bytes) bytes (omega arith))
 
 -- ---- reads
 
@@ -90,32 +78,21 @@ pub given_end : (line : FirstLine) (new : Option (List ℕ)) (buf : List ℕ) (c
     → (count ≡ 0 → 0 < length buf → IsAtEnd new) → (given ≡ 0 → 0 < length (take count buf) → is_turned_away line ≡ true)
     → given ≡ 0 → 0 < length buf → IsAtEnd (option_map (handed_on line) new)
 given_end line new buf zero given le inner mark none room = ended_end line new (inner refl room)
-given_end line new buf (suc n) given le inner mark none room =
-    let some : 0 < length (take (suc n) buf) = subst (λ k. 0 < k) (sym (length-take-le (suc n) buf le)) (omega arith) in
-    refused_end line new (mark none some)
+given_end line new buf (suc n) given le inner mark none room = refused_end line new (mark none (rw (length-take-le (suc n) buf le) (omega arith)))
 
 -- ---- a line that has the mark
 
 -- a byte of bytes that end no line is no line feed
 not_feed : (x : ℕ) (xs : List ℕ) → ends_line (x ∷ xs) ≡ false → ((x == 10) ≡ false) × (ends_line xs ≡ false)
-not_feed x xs h =
-    go (x == 10) h
-  where
-    go : (b : Bool) → cond b true (ends_line xs) ≡ false → (b ≡ false) × (ends_line xs ≡ false)
-    go true e = absurd (cc)
-    go false e = (refl, e)
+not_feed x xs h = elim (cases_Bool (x == 10)) [ inl is ↦ absurd (cc) | inr is ↦ (is, cc) ]
 
 ends_line-append : (xs ys : List ℕ) → ends_line xs ≡ false → ends_line ys ≡ false → ends_line (xs ++ ys) ≡ false
 ends_line-append [] ys h k = k
-ends_line-append (x ∷ xs) ys h k =
-    let is_not = not_feed x xs h in
-    ap (λ b. cond b true (ends_line (xs ++ ys))) is_not.0 ∙ ends_line-append xs ys is_not.1 k
+ends_line-append (x ∷ xs) ys h k = let is_not = not_feed x xs h in cc (is_not.0, ends_line-append xs ys is_not.1 k)
 
 ends_line-front : (xs ys : List ℕ) → ends_line (xs ++ ys) ≡ false → ends_line xs ≡ false
 ends_line-front [] ys h = refl
-ends_line-front (x ∷ xs) ys h =
-    let is_not = not_feed x (xs ++ ys) h in
-    ap (λ b. cond b true (ends_line xs)) is_not.0 ∙ ends_line-front xs ys is_not.1
+ends_line-front (x ∷ xs) ys h = let is_not = not_feed x (xs ++ ys) h in cc (is_not.0, ends_line-front xs ys is_not.1)
 
 ends_line-take : (n : ℕ) (xs : List ℕ) → ends_line xs ≡ false → ends_line (take n xs) ≡ false
 ends_line-take n xs h = ends_line-front (take n xs) (drop n xs) (ap ends_line (take-append-drop n xs) ∙ h)
@@ -187,11 +164,7 @@ mark_behind n m x bytes before mark clear has = (
   before ++ has.0,
   has.1,
   ends_line-append before has.0 clear has.2,
-  sym (append_assoc (take n http_mark) (x ∷ []) bytes)
-      ∙ ap (λ l. l ++ bytes) mark
-      ∙ append_assoc before (take m http_mark) bytes
-      ∙ ap (λ l. before ++ l) has.3
-      ∙ sym (append_assoc before has.0 (http_mark ++ has.1)),
+  cc (append_assoc (take n http_mark) (x ∷ []) bytes, append_assoc before (take m http_mark) bytes, has.3, append_assoc before has.0 (http_mark ++ has.1)),
 )
 
 -- all bytes are passed on, or the first line has the mark
@@ -223,9 +196,7 @@ guards_new (Some bytes) = (
 
 lines_none : (begun bytes : List ℕ) → ends_line bytes ≡ false → lines_after begun bytes ≡ []
 lines_none begun [] none = refl
-lines_none begun (x ∷ bytes) none =
-    let is_not = not_feed x bytes none in
-    ap (λ b. cond b (begun ∷ lines_after [] bytes) (lines_after (begun ++ x ∷ []) bytes)) is_not.0 ∙ lines_none (begun ++ x ∷ []) bytes is_not.1
+lines_none begun (x ∷ bytes) none = let is_not = not_feed x bytes none in cc (is_not.0, lines_none (begun ++ x ∷ []) bytes is_not.1)
 
 begins_none : {X : Type 0} (xs : List X) → IsBeginning xs [] → xs ≡ []
 begins_none [] begins = refl
@@ -264,8 +235,7 @@ module _ {A : Type 0} (answers : A → A → Query → Answer → Type 0) where
       → (b ≡ a) × Appends before after []
   ends_none End v given left before after a b none ends = serves_none v ends.0 a b before after (read_none given ends.0 left none ends.1) ends.3
   ends_none ReadFault v given left before after a b none ends = serves_none v ends.0 a b before after (read_none given ends.0 left none ends.1) ends.2
-  ends_none WriteFault v given left before after a b none ends = serves_no_part v ends.0 a b before after (read_none given ends.0 left none ends.1) ends.2
-  ends_none NoMemory v given left before after a b none ends = serves_no_part v ends.0 a b before after (read_none given ends.0 left none ends.1) ends.2
+  ends_none end v given left before after a b none ends = serves_no_part v ends.0 a b before after (read_none given ends.0 left none ends.1) ends.2
 
   -- an HTTP request gets no reply, and nothing is written
   pub http_nothing : (end : SessionEnd) (v : ℕ) (known given left before after : Option (List ℕ)) (a b : A) → Guards known given

@@ -1,5 +1,5 @@
 -- What is known of a status.
-use Rattle.std.proofs.Common.{◌≡◌, ℕ, Result, Ok, Err, arith, inl, inr, refl}
+use Rattle.silt_wire.proofs.Common.{◌≡◌, ℕ, Result, Ok, Err, arith, inl, inr, refl}
 use Rattle.std.specs.Prelude.{IfOk}
 use Rattle.silt_wire.specs.Statuses.{IsStatus}
 

@@ -1,16 +1,12 @@
 -- Taking bytes in two parts is taking them at once.
-use Rattle.std.proofs.Common.{◌≡◌, ◌==◌, ◌+◌, ◌<◌, ◌≤◌, take, get_or, ℕ, suc, true, false, cond, List, [], ◌∷◌, ◌++◌, length, refl, sym, ap, subst, ◌∙◌, append_assoc, arith, Option, Some, None}
+use Rattle.silt_wire.proofs.Common.{◌≡◌, ◌==◌, ◌+◌, ◌<◌, ◌≤◌, take, get_or, ℕ, suc, true, false, cond, List, [], ◌∷◌, ◌++◌, length, refl, sym, ap, subst, ◌∙◌, append_assoc, arith, Option, Some}
+use Rattle.silt_wire.proofs.Common.{None, position, position_or_len, common_steps, take_all, take_more, append-nil, length-take-le, fails_before_first, Appends, Consumes, Keeps, HoldsBytes}
+use Rattle.silt_wire.proofs.Common.{LineBuffer, lines_after, rest_after}
 use Rattle.std.specs.Prelude.{MatchBool}
-use Rattle.std.specs.List.{position, position_or_len}
-use Rattle.std.proofs.lemmas.Grind.{common_steps}
-use Rattle.std.proofs.lemmas.List.{take_all, take_more, append-nil, get_or-take, length-take-le}
+use Rattle.std.proofs.lemmas.List.{get_or-take}
 use Rattle.std.proofs.lemmas.List.Quantifiers.{position-Some}
-use Rattle.std.proofs.lemmas.List.Sums.{fails_before_first}
-use Rattle.std.specs.Io.KnownBytes.{Appends, Consumes, Keeps}
-use Rattle.silt_wire.specs.LineBuffer.{HoldsBytes, TakesPiece}
-use Rattle.silt_wire.specs.declared.line_buffer.LineBuffer.{LineBuffer}
+use Rattle.silt_wire.specs.LineBuffer.{TakesPiece}
 use Rattle.silt_wire.specs.declared.line_buffer.Taken.{Taken}
-use Rattle.silt_wire.specs.Sessions.{lines_after, rest_after}
 
 -- what is pending after two parts
 pub rest_after-append : (p xs ys : List ℕ) → rest_after p (xs ++ ys) ≡ rest_after (rest_after p xs) ys
@@ -93,8 +89,7 @@ EndNone-position bytes e = λ k lt.
 EndNone-before : (bytes : List ℕ) (at : ℕ) → position (λ b. b == 10) bytes ≡ Some at → EndNone (take at bytes)
 EndNone-before bytes at e = λ k lt.
     let found = position-Some (λ (b : ℕ). b == 10) bytes at 0 e in
-    let inside = found.0 in
-    let below : k < at = subst (λ n. k < n) (length-take-le at bytes (omega (arith, inside))) lt in
+    let below : k < at = subst (λ n. k < n) (length-take-le at bytes (omega (arith, found.0))) lt in
     subst (λ x. (x == 10) ≡ false) (sym (get_or-take at bytes k 0 below)) (found.2 k below)
 
 is-feed : (x : ℕ) → (x == 10) ≡ true → x ≡ 10
@@ -111,10 +106,7 @@ pub lines_after-first : (p bytes : List ℕ) (at : ℕ) → position (λ b. b ==
 lines_after-first p bytes at e =
     let front = take at bytes in
     let none = EndNone-before bytes at e in
-    ap (lines_after p) (upto-first bytes at e)
-    ∙ lines_after-append p front (10 ∷ [])
-    ∙ ap (λ lines. lines ++ lines_after (rest_after p front) (10 ∷ [])) (lines_after-none p front none)
-    ∙ ap (λ line. line ∷ []) (rest_after-none p front none)
+    cc (upto-first bytes at e, lines_after-append p front (10 ∷ []), lines_after-none p front none, rest_after-none p front none)
 
 pub rest_after-first : (p bytes : List ℕ) (at : ℕ) → position (λ b. b == 10) bytes ≡ Some at → rest_after p (take (at + 1) bytes) ≡ []
 rest_after-first p bytes at e = ap (rest_after p) (upto-first bytes at e) ∙ rest_after-append p (take at bytes) (10 ∷ [])

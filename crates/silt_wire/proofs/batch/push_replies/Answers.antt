@@ -1,5 +1,4 @@
-use Rattle.std.proofs.Common.{◌≡◌, ◌++◌, ◌∙◌, List, ℕ, flat_map, string_bytes}
-use Rattle.silt_wire.specs.Sessions.{IsBeginning, line_of}
+use Rattle.silt_wire.proofs.Common.{◌≡◌, ◌++◌, ◌∙◌, List, ℕ, flat_map, string_bytes, IsBeginning, line_of}
 use Rattle.silt_wire.proofs.Answering.{lines-take, on-err}
 use Rattle.silt_wire.proofs.batch.push_replies.Goals as goal
 

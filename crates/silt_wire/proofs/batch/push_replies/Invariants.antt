@@ -1,5 +1,4 @@
-use Rattle.std.proofs.Common.{◌≡◌, ◌++◌, flat_map, string_bytes, take}
-use Rattle.silt_wire.specs.Sessions.{line_of}
+use Rattle.silt_wire.proofs.Common.{◌≡◌, ◌++◌, flat_map, string_bytes, take, line_of}
 use Rattle.silt_wire.proofs.batch.push_replies.Given as goal
 
 abbrev pub invariant-loop-reply : goal.invariant-loop-reply

@@ -1,9 +1,5 @@
-use Rattle.std.proofs.Common.{[], ◌∷◌, OnOk, Some, string_bytes, subst, sym}
-use Rattle.std.proofs.lemmas.Result.{on_ok_weaker}
-use Rattle.silt_event.specs.Queries.{AnswersQuery}
-use Rattle.silt_wire.specs.Batches.{tail_asked}
-use Rattle.silt_wire.specs.declared.batch.Tail.{Tail}
-use Rattle.silt_wire.specs.Sessions.{AnswersAll}
+use Rattle.silt_wire.proofs.Common.{[], ◌∷◌, Some, string_bytes, subst, sym, on_ok_weaker, AnswersQuery, tail_asked, Tail, AnswersAll}
+use Rattle.std.proofs.Common.{OnOk}
 use Rattle.silt_wire.proofs.Answering.{all-admin}
 use Rattle.silt_wire.proofs.batch.push_tail.Goals as goal
 

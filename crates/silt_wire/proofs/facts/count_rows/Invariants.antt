@@ -1,4 +1,4 @@
-use Rattle.std.proofs.Common.{◌≡◌, map}
+use Rattle.silt_wire.proofs.Common.{◌≡◌, map}
 use Rattle.silt_wire.proofs.facts.count_rows.Given as goal
 
 abbrev pub invariant-loop-name : goal.invariant-loop-name

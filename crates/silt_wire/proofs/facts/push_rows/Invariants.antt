@@ -1,4 +1,4 @@
-use Rattle.std.proofs.Common.{◌≡◌, ◌++◌, flat_map, map, string_bytes, take}
+use Rattle.silt_wire.proofs.Common.{◌≡◌, ◌++◌, flat_map, map, string_bytes, take}
 use Rattle.silt_wire.specs.Facts.{fact_line}
 use Rattle.silt_wire.proofs.facts.push_rows.Given as goal
 

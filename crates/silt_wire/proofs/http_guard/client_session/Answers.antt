@@ -1,4 +1,4 @@
-use Rattle.silt_event.specs.Queries.{AnswersQuery}
+use Rattle.silt_wire.proofs.Common.{AnswersQuery}
 use Rattle.silt_wire.proofs.Http.{http_nothing}
 use Rattle.silt_wire.proofs.http_guard.client_session.Goals as goal
 

@@ -1,5 +1,4 @@
-use Rattle.std.proofs.Common.{◌∙◌, ap, sym}
-use Rattle.silt_wire.specs.Http.{is_turned_away}
+use Rattle.silt_wire.proofs.Common.{◌∙◌, ap, sym, is_turned_away}
 use Rattle.silt_wire.proofs.Http.{hands_last, hands_passed}
 use Rattle.silt_wire.proofs.http_guard.look_through.Goals as goal
 

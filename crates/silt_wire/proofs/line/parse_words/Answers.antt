@@ -1,4 +1,4 @@
-use Rattle.std.proofs.Common.{sym, ◌∙◌}
+use Rattle.silt_wire.proofs.Common.{sym, ◌∙◌}
 use Rattle.silt_wire.proofs.Cuts.{asked-two, asked-three, asked-four, last-from_none}
 use Rattle.silt_wire.proofs.line.parse_words.Goals as goal
 

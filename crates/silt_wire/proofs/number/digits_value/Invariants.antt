@@ -1,5 +1,4 @@
-use Rattle.std.proofs.Common.{◌≡◌, take}
-use Rattle.std.specs.Str.Parse.{digits_value}
+use Rattle.silt_wire.proofs.Common.{◌≡◌, take, digits_value}
 use Rattle.silt_wire.proofs.number.digits_value.Given as goal
 
 -- the digits so far write the number so far

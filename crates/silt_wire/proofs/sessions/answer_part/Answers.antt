@@ -1,6 +1,4 @@
-use Rattle.std.proofs.Common.{Some, ◌≡◌, string_bytes, subst, List, ℕ}
-use Rattle.silt_event.specs.Queries.{AnswersQuery}
-use Rattle.silt_wire.specs.Sessions.{IsBeginning}
+use Rattle.silt_wire.proofs.Common.{Some, ◌≡◌, string_bytes, subst, List, ℕ, AnswersQuery, IsBeginning}
 use Rattle.silt_wire.proofs.Answering.{if-either, some-taken, some-written}
 use Rattle.silt_wire.proofs.sessions.answer_part.Goals as goal
 

@@ -1,7 +1,4 @@
-use Rattle.std.proofs.Common.{◌≡◌, ◌≤◌, ◌-◌, ℕ, List, length, take}
-use Rattle.silt_event.specs.Queries.{AnswersQuery}
-use Rattle.silt_wire.specs.LineBuffer.{HoldsBytes}
-use Rattle.silt_wire.specs.Sessions.{ServesAll, rest_after}
+use Rattle.silt_wire.proofs.Common.{◌≡◌, ◌≤◌, ◌-◌, ℕ, List, length, take, AnswersQuery, HoldsBytes, ServesAll, rest_after}
 use Rattle.silt_wire.proofs.sessions.answer_read.Given as goal
 
 abbrev pub invariant-loop-done : goal.invariant-loop-done

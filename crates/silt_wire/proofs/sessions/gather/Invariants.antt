@@ -1,7 +1,5 @@
-use Rattle.std.proofs.Common.{◌≡◌, ◌≤◌, ◌-◌, ◌++◌, ℕ, List, length, take}
-use Rattle.silt_wire.specs.Batches.{IsAnswerable, requests}
-use Rattle.silt_wire.specs.LineBuffer.{HoldsBytes}
-use Rattle.silt_wire.specs.Sessions.{asks, lines_after, rest_after}
+use Rattle.silt_wire.proofs.Common.{◌≡◌, ◌≤◌, ◌-◌, ◌++◌, ℕ, List, length, take, requests, HoldsBytes, asks, lines_after, rest_after}
+use Rattle.silt_wire.specs.Batches.{IsAnswerable}
 use Rattle.silt_wire.proofs.sessions.gather.Given as goal
 
 abbrev pub invariant-loop-count : goal.invariant-loop-count

@@ -1,5 +1,4 @@
-use Rattle.std.proofs.Common.{Ok, sym, ◌∙◌}
-use Rattle.silt_event.specs.Queries.{does}
+use Rattle.silt_wire.proofs.Common.{Ok, sym, ◌∙◌, does}
 use Rattle.silt_wire.proofs.Answering.{asked-event, asks-live, gathers-event, query-event}
 use Rattle.silt_wire.proofs.sessions.gather_event.Goals as goal
 

@@ -1,8 +1,5 @@
-use Rattle.std.proofs.Common.{◌++◌, List, ℕ, ap, subst, sym, ◌∙◌}
+use Rattle.silt_wire.proofs.Common.{◌++◌, List, ℕ, ap, subst, sym, ◌∙◌, requests, HoldsBytes, asks}
 use Rattle.std.proofs.lemmas.Bool.{not-false, not-true}
-use Rattle.silt_wire.specs.Batches.{requests}
-use Rattle.silt_wire.specs.LineBuffer.{HoldsBytes}
-use Rattle.silt_wire.specs.Sessions.{asks}
 use Rattle.silt_wire.proofs.Streams.{piece-line, piece-open, piece-over}
 use Rattle.silt_wire.proofs.sessions.gather_line.Goals as goal
 

@@ -1,6 +1,4 @@
-use Rattle.std.proofs.Common.{◌++◌, [], List, ℕ, sym, subst, take}
-use Rattle.silt_event.specs.Queries.{AnswersQuery}
-use Rattle.silt_wire.specs.LineBuffer.{HoldsBytes}
+use Rattle.silt_wire.proofs.Common.{◌++◌, [], List, ℕ, sym, subst, take, AnswersQuery, HoldsBytes}
 use Rattle.silt_wire.proofs.Answering.{Ends-cut, Ends-unbegun, all-bytes, some-bytes}
 use Rattle.silt_wire.proofs.Streams.{Consumes-append, Consumes-keeps, rest_after-append}
 use Rattle.silt_wire.proofs.sessions.session_over.Goals as goal

@@ -1,9 +1,4 @@
-use Rattle.std.proofs.Common.{◌≡◌, ℕ, List, []}
-use Rattle.std.specs.Io.KnownBytes.{Consumes}
-use Rattle.silt_event.specs.Queries.{AnswersQuery}
-use Rattle.silt_wire.specs.LineBuffer.{HoldsBytes}
-use Rattle.silt_wire.specs.Sessions.{AnswersAll, asks}
-use Rattle.silt_wire.specs.Sessions.{lines_after, rest_after}
+use Rattle.silt_wire.proofs.Common.{◌≡◌, ℕ, List, [], Consumes, AnswersQuery, HoldsBytes, AnswersAll, asks, lines_after, rest_after}
 use Rattle.silt_wire.proofs.sessions.session_over.Given as goal
 
 abbrev pub invariant-loop : goal.invariant-loop

@@ -1,7 +1,4 @@
-use Rattle.std.proofs.Common.{◌∙◌, ◌++◌, Some, ap, string_bytes, subst, sym}
-use Rattle.silt_event.specs.Queries.{AnswersQuery}
-use Rattle.silt_wire.specs.Batches.{tail_after, requests}
-use Rattle.silt_wire.specs.Sessions.{AnswersAll}
+use Rattle.silt_wire.proofs.Common.{◌∙◌, ◌++◌, Some, ap, string_bytes, subst, sym, AnswersQuery, tail_after, requests, AnswersAll}
 use Rattle.silt_wire.proofs.Answering.{all-tail, begins-only, gathered-only, on-err, some-begun, some-from_all}
 use Rattle.silt_wire.proofs.sessions.take_part.Goals as goal
 

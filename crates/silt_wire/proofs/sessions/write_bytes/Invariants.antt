@@ -1,5 +1,4 @@
-use Rattle.std.proofs.Common.{◌≤◌, length, take}
-use Rattle.std.specs.Io.KnownBytes.{Appends}
+use Rattle.silt_wire.proofs.Common.{◌≤◌, length, take, Appends}
 use Rattle.silt_wire.proofs.sessions.write_bytes.Given as goal
 
 abbrev pub invariant-loop : goal.invariant-loop

@@ -1,7 +1,5 @@
-use Rattle.std.proofs.Common.{◌≡◌, ◌++◌, ◌∙◌, ap, subst, List, ℕ, flat_map, string_bytes}
-use Rattle.std.proofs.lemmas.Result.{on_ok_weaker, on_err_weaker}
-use Rattle.silt_event.specs.Events.{PlainReply}
-use Rattle.silt_wire.specs.Sessions.{IsBeginning, line_of}
+use Rattle.silt_wire.proofs.Common.{◌≡◌, ◌++◌, ◌∙◌, ap, subst, List, ℕ, flat_map, string_bytes, on_ok_weaker, PlainReply, IsBeginning, line_of}
+use Rattle.std.proofs.lemmas.Result.{on_err_weaker}
 use Rattle.silt_wire.proofs.Answering.{all-events, some-events}
 use Rattle.silt_wire.proofs.batch.Batch.answer.Goals as goal
 

@@ -1,4 +1,4 @@
-use Rattle.std.proofs.Common.{◌≤◌, ◌∙◌, arith, sym}
+use Rattle.silt_wire.proofs.Common.{◌≤◌, ◌∙◌, arith, sym}
 use Rattle.silt_wire.proofs.Http.{given_end, hands_read, refused_end, refused_reads}
 use Rattle.silt_wire.proofs.http_guard.HttpGuardRead.read.Goals as goal
 

@@ -1,4 +1,4 @@
-use Rattle.std.proofs.Common.{sym, ◌∙◌}
+use Rattle.silt_wire.proofs.Common.{sym, ◌∙◌}
 use Rattle.silt_wire.proofs.Streams.{taken-line, taken-rest}
 use Rattle.silt_wire.proofs.line_buffer.LineBuffer.take.Goals as goal
 
