@@ -1,21 +1,13 @@
 -- A session with a browser: its bytes end no line.
-use Rattle.std.proofs.Common.{◌≡◌, ◌==◌, ℕ, true, false, cond, List, [], ◌∷◌, ◌++◌, length, refl, sym, ap, subst, ◌∙◌, append-nil, arith, inl, inr, Option, Some, None}
+use Rattle.silt_resp.proofs.Common.{◌≡◌, ◌==◌, ℕ, true, false, cond, List, [], ◌∷◌, ◌++◌, length, refl, sym, ap, subst, ◌∙◌, arith, inl, inr, Option, Some, None, Consumes, cases_lt, AnswersEach}
+use Rattle.silt_resp.proofs.Common.{Answer, Query, IsBeginning, ProtocolFault, Settings, RespEnd, End, Closed, ReadFault, NoFeed, Asked, says, AnswersCommands, AnswersSomeCommands, EndsWith}
+use Rattle.silt_resp.proofs.Common.{all_queries, asked_after, asked_each, new_client, asked_texts, line_kind, line_limit, too_long}
+use Rattle.std.proofs.Common.{append-nil}
 use Rattle.std.specs.Prelude.{IfSome}
-use Rattle.std.specs.Io.KnownBytes.{Consumes}
-use Rattle.std.proofs.lemmas.Bool.{cases_lt}
-use Rattle.silt_event.specs.Events.{AnswersEach}
-use Rattle.silt_event.specs.Queries.{Answer, Query}
 use Rattle.silt_wire.specs.Http.{Guards, IsHttp, ends_line}
-use Rattle.silt_wire.specs.Sessions.{IsBeginning}
-use Rattle.silt_resp.specs.declared.fault.ProtocolFault.{ProtocolFault}
 use Rattle.silt_resp.specs.declared.fault.ProtocolFault.TheVariants.{BadCount}
-use Rattle.silt_resp.specs.declared.settings.Settings.{Settings}
-use Rattle.silt_resp.specs.declared.session.RespEnd.{RespEnd}
-use Rattle.silt_resp.specs.declared.session.RespEnd.TheVariants.{End, Closed, ReadFault, WriteFault, NoMemory}
-use Rattle.silt_resp.specs.Buffers.{NoFeed}
-use Rattle.silt_resp.specs.Commands.{Asked, broken_text, says, visitor_at_first}
-use Rattle.silt_resp.specs.Sessions.{AnswersCommands, AnswersSomeCommands, EndsWith, RespEnds, WritesAtMostFault, all_queries, asked_after, asked_each, new_client, asked_texts}
-use Rattle.silt_resp.specs.Stream.{line_kind, line_limit, too_long}
+use Rattle.silt_resp.specs.Commands.{broken_text, visitor_at_first}
+use Rattle.silt_resp.specs.Sessions.{RespEnds, WritesAtMostFault}
 use Rattle.silt_resp.proofs.Doing.{begins-trans}
 use Rattle.silt_resp.proofs.Runs.{line_over, line_run}
 
@@ -91,8 +83,7 @@ module _ {A : Type 0} (answers : A → A → Query → Answer → Type 0) where
   told_ends End s read a b before after none h = let m = at_most_fault s read none in all_told _ m.0 a b before after m.1 h.0
   told_ends ReadFault s read a b before after none h = let m = at_most_fault s read none in all_told _ m.0 a b before after m.1 h.0
   told_ends Closed s read a b before after none h = let m = at_most_fault s read none in all_told _ m.0 a b before after m.1 h.0
-  told_ends WriteFault s read a b before after none h = let m = at_most_fault s read none in some_told _ m.0 a b before after m.1 h
-  told_ends NoMemory s read a b before after none h = let m = at_most_fault s read none in some_told _ m.0 a b before after m.1 h
+  told_ends end s read a b before after none h = let m = at_most_fault s read none in some_told _ m.0 a b before after m.1 h
 
   -- an HTTP request does nothing, and has at most one error
   pub http_nothing : (end : RespEnd) (s : Settings) (known given left before after : Option (List ℕ)) (a b : A) → Guards known given

@@ -1,34 +1,24 @@
 -- Doing commands in two parts is doing them at once, and a beginning of a part is a beginning of the whole.
-use Rattle.std.proofs.Common.{◌≡◌, ◌+◌, ◌≤◌, ℕ, suc, Result, Ok, Err, List, [], ◌∷◌, ◌++◌, length, map, take, drop, take-append-drop, refl, sym, ap, subst, ◌∙◌}
-use Rattle.std.proofs.Common.{append_assoc, get_or, inl, inr, ◌<◌, Option, Some, arith, length-append, append-nil, None}
-use Rattle.std.specs.Prelude.{IfOk, OnErr, OnOk, min}
-use Rattle.std.proofs.Math.ListN.{drop_of_length-le}
-use Rattle.std.proofs.Math.Seq.{drop-cons}
-use Rattle.std.proofs.lemmas.Bool.{cases_lt}
-use Rattle.std.specs.Io.KnownBytes.{Appends}
+use Rattle.silt_resp.proofs.Common.{◌≡◌, ◌+◌, ◌≤◌, ℕ, suc, Result, Ok, Err, List, [], ◌∷◌, ◌++◌, length, take, drop, refl, sym, ap, subst, ◌∙◌, append_assoc, get_or, inl, inr, ◌<◌, Option, Some}
+use Rattle.silt_resp.proofs.Common.{arith, None, drop_of_length-le, drop-cons, cases_lt, Appends, drop-append-le, length-drop, take_all, take-append-le, take-add, Event, AnswersEach, PlainReply}
+use Rattle.silt_resp.proofs.Common.{Answer, AnswersQuery, Query, does, IsBeginning, IsBeginning-all, Settings, RespEnd, End, Closed, ReadFault, Batch, HoldsAsked, due_seen, part_text, part_texts}
+use Rattle.silt_resp.proofs.Common.{tail_parts, tail_queries, Asked, says, AnswersCommands, AnswersSomeCommands, Client, EndsWith, ServesCommands, all_queries, asked_after, asked_each, client_after}
+use Rattle.silt_resp.proofs.Common.{asked_texts, Command, closed, commands_after, stream_after}
+use Rattle.std.proofs.Common.{map, take-append-drop, length-append, append-nil}
+use Rattle.std.specs.Prelude.{IfOk, OnErr, min}
 use Rattle.std.proofs.lemmas.Grind.{flat_map-append}
-use Rattle.std.proofs.lemmas.List.{drop-append-le, drop-map, length-drop, length-map, take_all, take-append-le, take-map}
-use Rattle.std.proofs.Math.Seq.{take-add}
-use Rattle.silt_event.specs.declared.event.Event.{Event}
+use Rattle.std.proofs.lemmas.List.{drop-map, length-map, take-map}
 use Rattle.silt_event.specs.declared.admin.Admin.{Admin}
 use Rattle.silt_event.specs.declared.admin.AdminReply.{AdminReply}
-use Rattle.silt_event.specs.Events.{AnswersEach, PlainReply}
-use Rattle.silt_event.specs.Queries.{Answer, AnswersQuery, Query, does, replies as replied}
-use Rattle.silt_wire.specs.Sessions.{IsBeginning}
-use Rattle.silt_wire.proofs.Answering.{IsBeginning-all, each-queries}
+use Rattle.silt_event.specs.Queries.{replies as replied}
+use Rattle.silt_wire.proofs.Answering.{each-queries}
 use Rattle.silt_wire.proofs.Streams.{Appends-append, Appends-none}
-use Rattle.silt_resp.specs.declared.settings.Settings.{Settings}
 use Rattle.silt_resp.specs.declared.settings.Visitor.{Visitor}
-use Rattle.silt_resp.specs.declared.session.RespEnd.{RespEnd}
-use Rattle.silt_resp.specs.declared.session.RespEnd.TheVariants.{End, Closed, ReadFault, WriteFault, NoMemory}
-use Rattle.silt_resp.specs.declared.batch.Batch.{Batch}
 use Rattle.silt_resp.specs.declared.batch.Due.{Due}
 use Rattle.silt_resp.specs.declared.asked.Tail.{Tail}
-use Rattle.silt_resp.specs.Batches.{HoldsAsked, Part, due_seen, part_len, part_of, part_text, part_texts, tail_answers, tail_parts, tail_queries}
-use Rattle.silt_resp.specs.Commands.{Asked, asked_for, asks, asks_admin, says, visitor_after}
-use Rattle.silt_resp.specs.Sessions.{AnswersCommands, AnswersSomeCommands, Client, EndsWith, IsCommandsEnd, IsLast, ServesCommands, ServesSomeCommands}
-use Rattle.silt_resp.specs.Sessions.{all_queries, asked_queries, replies_in, asked_after, asked_each, client_after, asked_text, asked_texts, visitor_behind}
-use Rattle.silt_resp.specs.Stream.{Command, closed, commands_after, stream_after}
+use Rattle.silt_resp.specs.Batches.{Part, part_len, part_of, tail_answers}
+use Rattle.silt_resp.specs.Commands.{asks, asks_admin, visitor_after}
+use Rattle.silt_resp.specs.Sessions.{IsCommandsEnd, IsLast, ServesSomeCommands, asked_queries, replies_in, asked_text, visitor_behind}
 use Rattle.silt_resp.proofs.Runs.{closed_run}
 use Rattle.silt_resp.proofs.Streams.{commands_after-append, stream_after-append}
 
@@ -36,8 +26,7 @@ use Rattle.silt_resp.proofs.Streams.{commands_after-append, stream_after-append}
 
 -- three parts that are appended one after the other
 pub three_appended : (out a b d one two three : List ℕ) → one ≡ out ++ a → two ≡ one ++ b → three ≡ two ++ d → three ≡ out ++ (a ++ (b ++ d))
-three_appended out a b d one two three e f g =
-    g ∙ ap (λ l. l ++ d) f ∙ ap (λ l. (l ++ b) ++ d) e ∙ append_assoc (out ++ a) b d ∙ append_assoc out a (b ++ d)
+three_appended out a b d one two three e f g = simp (g, f, e, append_assoc)
 
 -- ---- beginnings
 
@@ -45,7 +34,7 @@ none_begins : {X : Type 0} (xs : List X) → IsBeginning [] xs
 none_begins xs = (xs, refl)
 
 pub begins-trans : {X : Type 0} (xs ys zs : List X) → IsBeginning xs ys → IsBeginning ys zs → IsBeginning xs zs
-begins-trans xs ys zs h k = (h.0 ++ k.0, sym (append_assoc xs h.0 k.0) ∙ ap (λ l. l ++ k.0) h.1 ∙ k.1)
+begins-trans xs ys zs h k = (h.0 ++ k.0, cc (append_assoc xs h.0 k.0, h.1, k.1))
 
 -- a beginning of what follows a front
 begins-behind : {X : Type 0} (front xs ys : List X) → IsBeginning xs ys → IsBeginning (front ++ xs) (front ++ ys)
@@ -62,22 +51,19 @@ visitor_behind-append s v (c ∷ cs) ds = visitor_behind-append s (visitor_after
 
 asked_each-append : (s : Settings) (v : Visitor) (cs ds : List Command) → asked_each s v (cs ++ ds) ≡ asked_each s v cs ++ asked_each s (visitor_behind s v cs) ds
 asked_each-append s v [] ds = refl
-asked_each-append s v (c ∷ cs) ds = ap (λ l. asked_for s v c ∷ l) (asked_each-append s (visitor_after s v c) cs ds)
+asked_each-append s v (c ∷ cs) ds = rw (asked_each-append s (visitor_after s v c) cs ds)
 
 -- the commands of two parts of the bytes
 pub asked_after-append : (s : Settings) (c : Client) (xs ys : List ℕ) → asked_after s c (xs ++ ys) ≡ asked_after s c xs ++ asked_after s (client_after s c xs) ys
-asked_after-append s c xs ys =
-    ap (asked_each s c.visitor) (commands_after-append c.stream xs ys)
-    ∙ asked_each-append s c.visitor (commands_after c.stream xs) (commands_after (stream_after c.stream xs) ys)
+asked_after-append s c xs ys = rw (commands_after-append c.stream xs ys, asked_each-append)
 
 -- the client behind two parts
 pub client_after-append : (s : Settings) (c : Client) (xs ys : List ℕ) → client_after s c (xs ++ ys) ≡ client_after s (client_after s c xs) ys
-client_after-append s c xs ys =
-    let stream = stream_after-append c.stream xs ys in
-    let visitor = ap (visitor_behind s c.visitor) (commands_after-append c.stream xs ys)
-    ∙ visitor_behind-append s c.visitor (commands_after c.stream xs) (commands_after (stream_after c.stream xs) ys) in
-    ap (λ st. record { stream = st; visitor = visitor_behind s c.visitor (commands_after c.stream (xs ++ ys)) }) stream
-    ∙ ap (λ v. record { stream = stream_after (stream_after c.stream xs) ys; visitor = v }) visitor
+client_after-append s c xs ys = cc (
+  stream_after-append c.stream xs ys,
+  commands_after-append c.stream xs ys,
+  visitor_behind-append s c.visitor (commands_after c.stream xs) (commands_after (stream_after c.stream xs) ys),
+)
 
 -- a closed stream asks for nothing
 closed_asks : (s : Settings) (c : Client) (ys : List ℕ) → c.stream.place ≡ closed → (asked_after s c ys ≡ []) × ((stream_after c.stream ys).place ≡ closed)
@@ -113,22 +99,15 @@ asked_texts-append (x ∷ xs) ys rs ss e =
     let n = length (asked_queries x) in
     let sizes = length-append (asked_queries x) (all_queries xs) in
     let room : n ≤ length rs = omega arith in
-    let left : length (drop n rs) ≡ length (all_queries xs) = omega (arith, length-drop n rs) in
-    let front = asked_text x (take n rs) in
-    ap (λ l. asked_text x l ++ asked_texts (xs ++ ys) (drop n (rs ++ ss))) (take-append-le n rs ss room)
-    ∙ ap (λ l. front ++ asked_texts (xs ++ ys) l) (drop-append-le n rs ss room)
-    ∙ ap (λ l. front ++ l) (asked_texts-append xs ys (drop n rs) ss left)
-    ∙ sym (append_assoc front (asked_texts xs (drop n rs)) (asked_texts ys ss))
+    let rest = asked_texts-append xs ys (drop n rs) ss (omega (arith, length-drop n rs)) in
+    cc (take-append-le n rs ss room, drop-append-le n rs ss room, append_assoc (asked_text x (take n rs)) (asked_texts xs (drop n rs)) (asked_texts ys ss))
 
 -- the replies that are due are those of the commands
 part_texts-asked : (asked : List Asked) (rs : List Answer) → part_texts (map part_of asked) rs ≡ asked_texts asked rs
 part_texts-asked [] rs = refl
-part_texts-asked (says text ∷ asked) rs = ap (λ t. text ++ t) (part_texts-asked asked rs)
-part_texts-asked (asks events form ∷ asked) rs =
-    let n = length events in
-    ap (λ t. asked_text (asks events form) (take n rs) ++ t) (part_texts-asked asked (drop n rs))
-    ∙ ap (λ k. asked_text (asks events form) (take k rs) ++ asked_texts asked (drop k rs)) (sym (length-map events does))
-part_texts-asked (asks_admin tail ∷ asked) rs = ap (λ t. asked_text (asks_admin tail) (take 1 rs) ++ t) (part_texts-asked asked (drop 1 rs))
+part_texts-asked (says text ∷ asked) rs = rw (part_texts-asked asked rs)
+part_texts-asked (asks events form ∷ asked) rs = cc (part_texts-asked asked (drop (length events) rs), length-map events does)
+part_texts-asked (asks_admin tail ∷ asked) rs = rw (part_texts-asked asked (drop 1 rs))
 
 -- ---- how many answers are due
 
@@ -138,18 +117,14 @@ parts_len (part ∷ parts) = part_len part + parts_len parts
 
 parts_len-append : (ps qs : List Part) → parts_len (ps ++ qs) ≡ parts_len ps + parts_len qs
 parts_len-append [] qs = omega arith
-parts_len-append (p ∷ ps) qs = let rest = parts_len-append ps qs in omega (arith, rest)
+parts_len-append (p ∷ ps) qs = omega (arith, parts_len-append ps qs)
 
 -- as many as the commands ask for
 parts_len-asked : (asked : List Asked) → parts_len (map part_of asked) ≡ length (all_queries asked)
 parts_len-asked [] = refl
-parts_len-asked (says text ∷ asked) = let rest = parts_len-asked asked in omega (arith, rest)
-parts_len-asked (asks events form ∷ asked) =
-    let rest = parts_len-asked asked in
-    let sizes = length-append (map does events) (all_queries asked) in
-    let same = length-map events does in
-    omega (arith, rest, sizes, same)
-parts_len-asked (asks_admin tail ∷ asked) = let rest = parts_len-asked asked in omega (arith, rest)
+parts_len-asked (says text ∷ asked) = omega (arith, parts_len-asked asked)
+parts_len-asked (asks events form ∷ asked) = omega (arith, parts_len-asked asked, length-append (map does events) (all_queries asked), length-map events does)
+parts_len-asked (asks_admin tail ∷ asked) = omega (arith, parts_len-asked asked)
 
 tail_len : (tail : Option Tail) → parts_len (tail_parts tail) ≡ length (tail_queries tail)
 tail_len None = refl
@@ -162,17 +137,13 @@ part_texts-append [] qs (r ∷ rs) ss e = absurd (omega arith)
 part_texts-append (p ∷ ps) qs rs ss e =
     let n = part_len p in
     let room : n ≤ length rs = omega arith in
-    let left : length (drop n rs) ≡ parts_len ps = omega (arith, length-drop n rs) in
-    let front = part_text p (take n rs) in
-    ap (λ l. part_text p l ++ part_texts (ps ++ qs) (drop n (rs ++ ss))) (take-append-le n rs ss room)
-    ∙ ap (λ l. front ++ part_texts (ps ++ qs) l) (drop-append-le n rs ss room)
-    ∙ ap (λ l. front ++ l) (part_texts-append ps qs (drop n rs) ss left)
-    ∙ sym (append_assoc front (part_texts ps (drop n rs)) (part_texts qs ss))
+    let rest = part_texts-append ps qs (drop n rs) ss (omega (arith, length-drop n rs)) in
+    cc (take-append-le n rs ss room, drop-append-le n rs ss room, append_assoc (part_text p (take n rs)) (part_texts ps (drop n rs)) (part_texts qs ss))
 
 -- the replies in the answers that are replies
 pub replies_in-map : (rs : List PlainReply) → replies_in (map replied rs) ≡ rs
 replies_in-map [] = refl
-replies_in-map (r ∷ rs) = ap (λ l. r ∷ l) (replies_in-map rs)
+replies_in-map (r ∷ rs) = rw (replies_in-map rs)
 
 module _ {A : Type 0} (answers : A → A → Query → Answer → Type 0) where
   -- ---- one part after the other
@@ -187,8 +158,8 @@ module _ {A : Type 0} (answers : A → A → Query → Answer → Type 0) where
       → AnswersCommands answers (xs ++ ys) a c w u
   all-append a b c xs ys w v u h k = (
     h.0 ++ k.0,
-    subst (λ es. AnswersEach answers a es (h.0 ++ k.0) c) (sym (all_queries-append xs ys)) (each-append answers a b c (all_queries xs) (all_queries ys) h.0 k.0 h.1 k.1),
-    subst (λ t. Appends w u t) (sym (asked_texts-append xs ys h.0 k.0 (each-length answers a b (all_queries xs) h.0 h.1))) (Appends-append w v u _ _ h.2 k.2),
+    rw (all_queries-append xs ys) (each-append answers a b c (all_queries xs) (all_queries ys) h.0 k.0 h.1 k.1),
+    rw (asked_texts-append xs ys h.0 k.0 (each-length answers a b (all_queries xs) h.0 h.1)) (Appends-append w v u _ _ h.2 k.2),
   )
 
   -- all of the first part, and a beginning of the second
@@ -228,8 +199,7 @@ module _ {A : Type 0} (answers : A → A → Query → Answer → Type 0) where
   ends-bytes End s c xs ys a b d w v u h k = (all-bytes s c xs ys a b d w v u h k.0, λ e. k.1 (sym (ap (λ st. st.place) (stream_after-append c.stream xs ys)) ∙ e))
   ends-bytes ReadFault s c xs ys a b d w v u h k = (all-bytes s c xs ys a b d w v u h k.0, λ e. k.1 (sym (ap (λ st. st.place) (stream_after-append c.stream xs ys)) ∙ e))
   ends-bytes Closed s c xs ys a b d w v u h k = (all-bytes s c xs ys a b d w v u h k.0, ap (λ st. st.place) (stream_after-append c.stream xs ys) ∙ k.1)
-  ends-bytes WriteFault s c xs ys a b d w v u h k = some-bytes s c xs ys a b d w v u h k
-  ends-bytes NoMemory s c xs ys a b d w v u h k = some-bytes s c xs ys a b d w v u h k
+  ends-bytes end s c xs ys a b d w v u h k = some-bytes s c xs ys a b d w v u h k
 
   -- one part more of a slice
   pub all-part : (s : Settings) (c : Client) (bytes : List ℕ) (done count : ℕ) (a b d : A) (w v u : Option (List ℕ)) → ServesCommands answers s c (take done bytes) a b w v
@@ -260,12 +230,9 @@ module _ {A : Type 0} (answers : A → A → Query → Answer → Type 0) where
   closed-part s c bytes count a b w v e h =
       let front = take count bytes in
       let behind = closed_asks s (client_after s c front) (drop count bytes) e in
-      let same : asked_after s c bytes ≡ asked_after s c front =
-      ap (asked_after s c) (sym (take-append-drop count bytes)) ∙ asked_after-append s c front (drop count bytes) ∙ ap (λ l. asked_after s c front ++ l) behind.0
-      ∙ append-nil (asked_after s c front) in (
-        subst (λ q. AnswersCommands answers q a b w v) (sym same) h,
-        ap (λ xs. (stream_after c.stream xs).place) (sym (take-append-drop count bytes)) ∙ ap (λ st. st.place) (stream_after-append c.stream front (drop count bytes)) ∙ behind.1,
-      )
+      let whole = take-append-drop count bytes in
+      let same : asked_after s c bytes ≡ asked_after s c front = cc (asked_after-append s c front (drop count bytes), append-nil (asked_after s c front), behind.0) in
+      (rw same h, cc (stream_after-append c.stream front (drop count bytes), behind.1))
 
   -- ---- what was gathered is written
 
@@ -307,18 +274,20 @@ module _ {A : Type 0} (answers : A → A → Event → PlainReply → Type 0) (a
   batch_len : (asked : List Asked) (a b : A) (rs : List PlainReply) → HoldsAsked batch asked → AnswersEach answers a batch.events.items rs b
       → length (map replied rs) ≡ parts_len (map due_seen batch.dues.items)
   batch_len asked a b rs h each =
-      let tail = tail_len batch.tail in
-      let sum = parts_len-append (map due_seen batch.dues.items) (tail_parts batch.tail) in
       let all = ap parts_len h.parts ∙ parts_len-asked asked ∙ ap length (sym h.queries) in
-      let sizes = length-append (map does batch.events.items) (tail_queries batch.tail) in
-      let each_len = each-length (AnswersQuery answers administers) a b (map does batch.events.items) (map replied rs) (each-queries answers administers a b batch.events.items rs each) in
-      omega (arith, tail, sum, all, sizes, each_len)
+      omega (
+        arith,
+        tail_len batch.tail,
+        parts_len-append (map due_seen batch.dues.items) (tail_parts batch.tail),
+        length-append (map does batch.events.items) (tail_queries batch.tail),
+        each-length (AnswersQuery answers administers) a b (map does batch.events.items) (map replied rs) (each-queries answers administers a b batch.events.items rs each),
+      )
 
   batch_texts : (asked : List Asked) (a b : A) (rs : List PlainReply) (said : AdminReply) → HoldsAsked batch asked → AnswersEach answers a batch.events.items rs b
       → event_texts rs ++ part_texts (tail_parts batch.tail) (tail_answers batch.tail said) ≡ asked_texts asked (batch_answers rs said)
   batch_texts asked a b rs said h each =
-      sym (part_texts-append (map due_seen batch.dues.items) (tail_parts batch.tail) (map replied rs) (tail_answers batch.tail said) (batch_len asked a b rs h each))
-      ∙ ap (λ ps. part_texts ps (batch_answers rs said)) h.parts ∙ part_texts-asked asked (batch_answers rs said)
+      let both = part_texts-append (map due_seen batch.dues.items) (tail_parts batch.tail) (map replied rs) (tail_answers batch.tail said) (batch_len asked a b rs h each) in
+      cc (h.parts, part_texts-asked asked (batch_answers rs said))
 
   pub all-batch : (asked : List Asked) (a b : A) (rs : List PlainReply) (said : AdminReply) (text mid more : List ℕ) → HoldsAsked batch asked
       → AnswersEach answers a batch.events.items rs b
@@ -326,12 +295,11 @@ module _ {A : Type 0} (answers : A → A → Event → PlainReply → Type 0) (a
       → mid ≡ text ++ part_texts (map due_seen batch.dues.items) (map replied rs)
       → more ≡ mid ++ part_texts (tail_parts batch.tail) (tail_answers batch.tail said)
       → AnswersCommands (AnswersQuery answers administers) asked a b (Some text) (Some more)
-  all-batch asked a b rs said text mid more h each tail e f =
-      let last = part_texts (tail_parts batch.tail) (tail_answers batch.tail said) in (
-        batch_answers rs said,
-        batch_each asked a b rs said h each tail,
-        f ∙ ap (λ l. l ++ last) e ∙ append_assoc text (event_texts rs) last ∙ ap (λ l. text ++ l) (batch_texts asked a b rs said h each),
-      )
+  all-batch asked a b rs said text mid more h each tail e f = (
+    batch_answers rs said,
+    batch_each asked a b rs said h each tail,
+    cc (append_assoc text (event_texts rs) (part_texts (tail_parts batch.tail) (tail_answers batch.tail said)), batch_texts asked a b rs said h each),
+  )
 
   -- the texts of the first replies are there
   pub some-batch : (asked : List Asked) (a b : A) (rs : List PlainReply) (said : AdminReply) (text more : List ℕ) → HoldsAsked batch asked
@@ -354,16 +322,14 @@ module _ {A : Type 0} (answers : A → A → Event → PlainReply → Type 0) (a
 
 take_within : {X : Type 0} (n : ℕ) (xs : List X) → take (min n (length xs)) xs ≡ take n xs
 take_within n xs = elim (cases_lt n (length xs)) [
-  | inl below ↦ let e : min n (length xs) ≡ n = omega arith in ap (λ k. take k xs) e
-  | inr above ↦ let e : min n (length xs) ≡ length xs = omega arith in
-      ap (λ k. take k xs) e ∙ take_all (length xs) xs (omega arith) ∙ sym (take_all n xs above)
+  | inl below ↦ let e : min n (length xs) ≡ n = omega arith in rw e
+  | inr above ↦ rw (take_all (min n (length xs)) xs (omega arith)) (sym (take_all n xs above))
 ]
 
 drop_within : {X : Type 0} (n : ℕ) (xs : List X) → drop (min n (length xs)) xs ≡ drop n xs
 drop_within n xs = elim (cases_lt n (length xs)) [
-  | inl below ↦ let e : min n (length xs) ≡ n = omega arith in ap (λ k. drop k xs) e
-  | inr above ↦ let e : min n (length xs) ≡ length xs = omega arith in
-      ap (λ k. drop k xs) e ∙ drop_of_length-le xs (omega arith) ∙ sym (drop_of_length-le xs above)
+  | inl below ↦ let e : min n (length xs) ≡ n = omega arith in rw e
+  | inr above ↦ let none : drop (min n (length xs)) xs ≡ [] = drop_of_length-le xs (omega arith) in none ∙ sym (drop_of_length-le xs above)
 ]
 
 -- one due more
@@ -374,24 +340,16 @@ pub due_more : (dues : List Due) (index : ℕ) (due : Due) (rest front back : Li
 due_more dues index due rest front back out all within is is_front is_back h =
     let n = part_len (due_seen due) in
     let next : suc index ≡ index + 1 = omega arith in
-    let cut : drop index dues ≡ due ∷ drop (index + 1) dues =
-    drop-cons dues index due within ∙ ap (λ d. d ∷ drop (suc index) dues) (sym is) ∙ ap (λ k. due ∷ drop k dues) next in
-    let fronts : map replied front ≡ take n (map replied rest) = ap (map replied) (is_front ∙ take_within n rest) ∙ sym (take-map replied n rest) in
-    let backs : map replied back ≡ drop n (map replied rest) = ap (map replied) (is_back ∙ drop_within n rest) ∙ sym (drop-map replied n rest) in
-    append_assoc out (part_text (due_seen due) (map replied front)) (part_texts (map due_seen (drop (index + 1) dues)) (map replied back))
-    ∙ ap (λ f. out ++ (part_text (due_seen due) f ++ part_texts (map due_seen (drop (index + 1) dues)) (map replied back))) fronts
-    ∙ ap (λ b. out ++ (part_text (due_seen due) (take n (map replied rest)) ++ part_texts (map due_seen (drop (index + 1) dues)) b)) backs
-    ∙ ap (λ ds. out ++ part_texts (map due_seen ds) (map replied rest)) (sym cut) ∙ h
+    let cut = drop-cons dues index due within in
+    let fronts : map replied front ≡ take n (map replied rest) = cc (take_within n rest, take-map replied n rest) in
+    let backs : map replied back ≡ drop n (map replied rest) = cc (drop_within n rest, drop-map replied n rest) in
+    cc (append_assoc out (part_text (due_seen due) (map replied front)) (part_texts (map due_seen (drop (index + 1) dues)) (map replied back)))
 
 -- ---- ends
 
 pub on-err : {T E P : Type 0} (r : Result T E) → P → OnErr r P
 on-err (Ok x) p = tt
 on-err (Err e) p = p
-
-pub on-ok : {T E P : Type 0} (r : Result T E) → P → OnOk r P
-on-ok (Ok x) p = p
-on-ok (Err e) p = tt
 
 pub if-ok : {T E : Type 0} {P Q : T → Type 0} (r : Result T E) → ((x : T) → P x → Q x) → IfOk r P → IfOk r Q
 if-ok (Ok x) f p = f x p
@@ -401,12 +359,8 @@ if-ok (Err e) f p = tt
 pub last_cut : (end : RespEnd) (remaining : Option (List ℕ)) → IsCommandsEnd end → IsLast end remaining
 last_cut End remaining cut = absurd cut
 last_cut ReadFault remaining cut = absurd cut
-last_cut Closed remaining cut = tt
-last_cut WriteFault remaining cut = tt
-last_cut NoMemory remaining cut = tt
+last_cut end remaining cut = tt
 
 -- the first bytes of a name that are shown
 pub shown_part : (name shown : List ℕ) (mid len : ℕ) → shown ≡ take mid name → mid ≡ min len 32 → len ≡ length name → shown ≡ take 32 name
-shown_part name shown mid len e is size =
-    let same : mid ≡ min 32 (length name) = omega arith in
-    e ∙ ap (λ n. take n name) same ∙ take_within 32 name
+shown_part name shown mid len e is size = let same : mid ≡ min 32 (length name) = omega arith in cc (take_within 32 name)

@@ -1,24 +1,19 @@
 -- What clients encode is read.
-use Rattle.std.proofs.Common.{◌≡◌, ◌<◌, ◌≤◌, ◌+◌, ◌-◌, ◌%◌, ◌^◌, ◌==◌, ◌&&◌, ℕ, suc, true, false, List, [], ◌∷◌, ◌++◌, length, map, take, drop, Some, None}
-use Rattle.std.proofs.Common.{is_some, Ok, refl, sym, ap, subst, ◌∙◌, append_assoc, arith, rules}
-use Rattle.std.specs.Prelude.{All, nat_lt, nat_le, slice_index, if◌then◌else◌}
+use Rattle.silt_resp.specs.declared.fault.ProtocolFault.TheVariants.{BadCount}
+use Rattle.silt_resp.proofs.Common.{◌≡◌, ◌<◌, ◌≤◌, ◌+◌, ◌-◌, ◌%◌, ◌==◌, ℕ, suc, true, false, List, [], ◌∷◌, ◌++◌, length, Some, Ok, refl, append_assoc, arith, rules, All, nat_lt, nat_le}
+use Rattle.silt_resp.proofs.Common.{slice_index, if◌then◌else◌, list_all, common_steps, take_at, All-head, All-tail, WordLength, NoFeed, Command, closed, command_read, commands_after, goes_on, line}
+use Rattle.silt_resp.proofs.Common.{line_kind, long, longest_word, next_stream, start, whole, word_ended, word_grown, word_of}
+use Rattle.std.proofs.Common.{◌^◌, map, ◌&&◌, drop, is_some, ap, ◌∙◌}
 use Rattle.std.specs.Char.{is_ascii_digit}
 use Rattle.std.specs.Fmt.{decimal}
-use Rattle.std.specs.List.{flat_map, list_all}
+use Rattle.std.specs.List.{flat_map}
 use Rattle.std.specs.Str.Parse.{digits_value}
 use Rattle.std.proofs.lemmas.Fmt.{decimal_by_steps, decimal_nonempty, digits_decimal, digits_value-decimal, first_decimal, length-decimal-le}
-use Rattle.std.proofs.lemmas.Grind.{common_steps}
-use Rattle.std.proofs.lemmas.List.{append-nil, get_or_at, length-append, take_at}
-use Rattle.std.proofs.lemmas.List.Elements.{All-head, All-tail}
+use Rattle.std.proofs.lemmas.List.{append-nil, get_or_at, length-append}
 use Rattle.std.proofs.lemmas.Str.Parse.{IsNumeralModel, numerals_by_value}
-use Rattle.silt_wire.specs.Numbers.{is_numeral, number_of}
-use Rattle.silt_resp.specs.declared.fault.ProtocolFault.TheVariants.{BadCount, BadLength}
-use Rattle.silt_resp.specs.declared.heads.LineKind.TheVariants.{Inline, Count, WordLength}
-use Rattle.silt_resp.specs.Buffers.{NoFeed}
-use Rattle.silt_resp.specs.Heads.{before_return, bytes_announced, count_announced, length_in, longest_announced, most_announced, number_or, within, word_count, words_announced}
-use Rattle.silt_resp.specs.Stream.{Command, IsEncodable, RespLaw, Word, byte_taken, closes, closed, command_bytes, command_read, commands_after, count_ended}
-use Rattle.silt_resp.specs.Stream.{ends, goes_on, length_ended, line, line_closed, line_kind, line_limit, long, longest_word, next_stream, start, up_to_closing}
-use Rattle.silt_resp.specs.Stream.{whole, word_bytes, word_ended, word_grown, word_of}
+use Rattle.silt_wire.specs.Numbers.{number_of}
+use Rattle.silt_resp.specs.Heads.{before_return, bytes_announced, longest_announced, most_announced, within, words_announced, count_announced, number_or, word_count}
+use Rattle.silt_resp.specs.Stream.{IsEncodable, RespLaw, Word, closes, command_bytes, word_bytes, up_to_closing}
 use Rattle.silt_resp.proofs.Runs.{Goes, Goes-append, Goes-byte, at_line, at_word, closed_run, line_run, word_run}
 use Rattle.silt_resp.proofs.Streams.{commands_after-append}
 
@@ -46,29 +41,17 @@ number_of-decimal n small =
     let fits : n < 2 ^ 64 = omega arith in
     let some : nat_le 1 (length (decimal n)) ≡ true = grind (arith, common_steps, decimal_nonempty n fits) in
     let short : nat_le (length (decimal n)) 10 ≡ true = grind (arith, common_steps, length-decimal-le 10 n (omega arith) (omega arith) fits) in
-    let digits = digits_decimal own n fits in
-    let value : digits_value 10 (decimal n) ≡ n = digits_value-decimal own n fits in
-    let numeral : is_numeral (decimal n) ≡ true =
-    ap (λ b. b && (nat_le (length (decimal n)) 10 && list_all is_ascii_digit (decimal n))) some ∙ ap (λ b. b && list_all is_ascii_digit (decimal n)) short ∙ digits in
     let most : nat_le n 4294967295 ≡ true = grind (arith, common_steps) in
-    ap (λ b. if b then (if nat_le (digits_value 10 (decimal n)) 4294967295 then Some (digits_value 10 (decimal n)) else None) else None) numeral
-    ∙ ap (λ k. if nat_le k 4294967295 then Some k else None) value ∙ ap (λ b. if b then Some n else None) most
+    cc (digits_decimal own n fits, digits_value-decimal own n fits)
 
 within-small : (most n : ℕ) → n ≤ most → within most (Some n) ≡ Some n
-within-small most n small =
-    let few : nat_le n most ≡ true = grind (arith, common_steps) in
-    ap (λ b. if b then Some n else None) few
+within-small most n small = let few : nat_le n most ≡ true = grind (arith, common_steps) in cc
 
 -- a carriage return is taken off
 before_return-of : (text : List ℕ) → before_return (text ++ 13 ∷ []) ≡ Some text
 before_return-of text =
-    let size = length-append text (13 ∷ []) in
-    let last : length (text ++ 13 ∷ []) - 1 ≡ length text = omega (arith, size) in
-    let end : slice_index (text ++ 13 ∷ []) (length (text ++ 13 ∷ []) - 1) ≡ 13 =
-    ap (λ k. slice_index (text ++ 13 ∷ []) k) last ∙ get_or_at text 13 [] 0 (length text) refl in
-    let there : (slice_index (text ++ 13 ∷ []) (length (text ++ 13 ∷ []) - 1) == 13) ≡ true = ap (λ b. b == 13) end in
-    ap (λ b. if b then Some (take (length (text ++ 13 ∷ []) - 1) (text ++ 13 ∷ [])) else None) there
-    ∙ ap (λ t. Some t) (ap (λ k. take k (text ++ 13 ∷ [])) last ∙ take_at text (13 ∷ []) (length text) refl)
+    let last : length (text ++ 13 ∷ []) - 1 ≡ length text = omega (arith, length-append text (13 ∷ [])) in
+    cc (get_or_at text 13 [] 0 (length text) refl, take_at text (13 ∷ []) (length text) refl)
 
 -- a number of words is read
 count_read : (n : ℕ) → 1 ≤ n → n ≤ most_announced → words_announced (42 ∷ (decimal n ++ 13 ∷ [])) ≡ Ok n
@@ -83,10 +66,7 @@ count_read n some most =
 
 -- the length of a word is read
 length_read : (n : ℕ) → n ≤ longest_announced → bytes_announced (36 ∷ (decimal n ++ 13 ∷ [])) ≡ Ok n
-length_read n most =
-    let length_is : within longest_announced (number_of (decimal n)) ≡ Some n =
-    ap (within longest_announced) (number_of-decimal n (omega arith)) ∙ within-small longest_announced n most in
-    ap length_in (before_return-of (decimal n)) ∙ ap (number_or BadLength) length_is
+length_read n most = cc (number_of-decimal n (omega arith), within-small longest_announced n most, before_return-of (decimal n))
 
 -- a line with a number is short
 head_fits : (mark n : ℕ) → n ≤ longest_announced → (mark == 10) ≡ false → NoFeed (mark ∷ (decimal n ++ 13 ∷ [])) × (length (mark ∷ (decimal n ++ 13 ∷ [])) ≤ 32)
@@ -103,9 +83,7 @@ count_goes : (n : ℕ) → 1 ≤ n → n ≤ most_announced → Goes start ((42 
 count_goes n some most =
     let text = 42 ∷ (decimal n ++ 13 ∷ []) in
     let fits = head_fits 42 n (omega arith) refl in
-    let run : Goes start text (at_line [] 0 text) [] = line_run [] 0 [] text fits.0 fits.1 in
-    let feed : byte_taken (at_line [] 0 text) 10 ≡ goes_on (at_line [] n []) = ap count_ended (count_read n some most) in
-    Goes-append run (Goes-byte (at_line [] 0 text) 10 (at_line [] n []) [] feed)
+    Goes-append (line_run [] 0 [] text fits.0 fits.1) (Goes-byte (at_line [] 0 text) 10 (at_line [] n []) [] (cc (count_read n some most)))
 
 -- a word of which no byte has come
 abbrev new_word : ℕ → Word
@@ -115,16 +93,13 @@ new_word n = if nat_lt longest_word n then long else whole []
 length_goes : (words : List Word) (left n : ℕ) → n ≤ longest_announced
     → Goes (at_line words (suc left) []) ((36 ∷ (decimal n ++ 13 ∷ [])) ++ 10 ∷ []) (at_word words (suc left) (n + 2) (new_word n)) []
 length_goes words left n most =
-    let s = at_line words (suc left) [] in
     let text = 36 ∷ (decimal n ++ 13 ∷ []) in
+    let here = at_line words (suc left) text in
     let fits = head_fits 36 n most refl in
     let due : nat_lt 0 (suc left) ≡ true = grind (arith, common_steps) in
-    let kind : line_kind (suc left) text ≡ WordLength = ap (λ b. if b then WordLength else if slice_index text 0 == 42 then Count else Inline) due in
-    let short = subst (λ k. length text ≤ line_limit k) (sym kind) fits.1 in
-    let run : Goes s text (at_line words (suc left) text) [] = line_run words (suc left) [] text fits.0 short in
-    let here = at_line words (suc left) text in
-    let feed : byte_taken here 10 ≡ goes_on (at_word words (suc left) (n + 2) (new_word n)) = ap (line_closed here text) kind ∙ ap (length_ended here) (length_read n most) in
-    Goes-append run (Goes-byte here 10 (at_word words (suc left) (n + 2) (new_word n)) [] feed)
+    let kind : line_kind (suc left) text ≡ WordLength = cc in
+    let run = line_run words (suc left) [] text fits.0 (rw kind fits.1) in
+    Goes-append run (Goes-byte here 10 (at_word words (suc left) (n + 2) (new_word n)) [] (cc (length_read n most)))
 
 new_word-grown : (word : List ℕ) → word_grown (new_word (length word)) word ≡ word_of word
 new_word-grown word =
@@ -133,63 +108,45 @@ new_word-grown word =
 -- the bytes of a word and its end
 word_goes : (words : List Word) (left : ℕ) (word : List ℕ) → Goes (at_word words left (length word + 2) (new_word (length word))) word (at_word words left 2 (word_of word)) []
 word_goes words left word =
-    let run = word_run words left (length word + 2) (new_word (length word)) word (omega arith) in
     let due : length word + 2 - length word ≡ 2 = omega arith in
-    subst (λ w. Goes (at_word words left (length word + 2) (new_word (length word))) word (at_word words left 2 w) []) (new_word-grown word)
-    (subst (λ k. Goes (at_word words left (length word + 2) (new_word (length word))) word (at_word words left k (word_grown (new_word (length word)) word)) []) due run)
+    rw (due, new_word-grown word) at (word_run words left (length word + 2) (new_word (length word)) word (omega arith))
 
 -- a word as it is encoded
 encoded_word : (words : List Word) (left : ℕ) (word : List ℕ) → length word ≤ longest_announced
     → Goes (at_line words (suc left) []) (word_bytes word) (word_ended (at_word words (suc left) 1 (word_of word)) (word_of word)).0
     (word_ended (at_word words (suc left) 1 (word_of word)) (word_of word)).1
 encoded_word words left word short =
-    let s = at_line words (suc left) [] in
-    let here = at_word words (suc left) 2 (word_of word) in
     let last = at_word words (suc left) 1 (word_of word) in
     let done = word_ended last (word_of word) in
-    let head = length_goes words left (length word) short in
-    let run = word_goes words (suc left) word in
-    let return = Goes-byte here 13 last [] refl in
-    let feed = Goes-byte last 10 done.0 done.1 refl in
-    let all = Goes-append head (Goes-append run (Goes-append return feed)) in
-    let same : (36 ∷ (decimal (length word) ++ 13 ∷ [])) ++ 10 ∷ [] ++ (word ++ (13 ∷ [] ++ 10 ∷ [])) ≡ word_bytes word =
-    ap (λ t. 36 ∷ t) (ap (λ t. t ++ (word ++ 13 ∷ 10 ∷ [])) (append_assoc (decimal (length word)) (13 ∷ []) (10 ∷ [])) ∙ append_assoc (decimal (length word)) (13 ∷ 10 ∷ []) (word ++ 13 ∷ 10 ∷ [])) in
-    subst (λ bytes. Goes s bytes done.0 done.1) same all
+    let return = Goes-byte (at_word words (suc left) 2 (word_of word)) 13 last [] refl in
+    let all = Goes-append (length_goes words left (length word) short) (Goes-append (word_goes words (suc left) word) (Goes-append return (Goes-byte last 10 done.0 done.1 refl))) in
+    let same : (36 ∷ (decimal (length word) ++ 13 ∷ [])) ++ 10 ∷ [] ++ (word ++ (13 ∷ [] ++ 10 ∷ [])) ≡ word_bytes word = simp append_assoc in
+    rw same at all
 
 -- the words of a command
 encoded_words : (words : List Word) (word : List ℕ) (rest : List (List ℕ)) → All (λ w. length w ≤ longest_announced) (word ∷ rest)
     → Goes (at_line words (length (word ∷ rest)) []) (flat_map word_bytes (word ∷ rest)) (next_stream (command_read (words ++ map word_of (word ∷ rest))))
     (command_read (words ++ map word_of (word ∷ rest)) ∷ [])
-encoded_words words word [] short =
-    let command = command_read (words ++ word_of word ∷ []) in
-    let all : Goes (at_line words 1 []) (word_bytes word) (next_stream command) (command ∷ []) =
-    encoded_word words 0 word (All-head (λ (w : List ℕ). length w ≤ longest_announced) word [] short) in
-    subst (λ bytes. Goes (at_line words 1 []) bytes (next_stream command) (command ∷ [])) (sym (append-nil (word_bytes word))) all
+encoded_words words word [] short = rw append-nil (encoded_word words 0 word (All-head (λ (w : List ℕ). length w ≤ longest_announced) word [] short))
 encoded_words words word (second ∷ rest) short =
     let n = length rest in
     let w = word_of word in
-    let s = at_line words (suc (suc n)) [] in
     let next = at_line (words ++ w ∷ []) (suc n) [] in
     let many : nat_le (suc (suc n)) 1 ≡ false = grind (arith, common_steps) in
     let left : suc (suc n) - 1 ≡ suc n = omega arith in
-    let step : word_ended (at_word words (suc (suc n)) 1 w) w ≡ goes_on next =
-    ap (λ b. if b then ends (command_read (words ++ w ∷ [])) else goes_on (at_line (words ++ w ∷ []) (suc (suc n) - 1) [])) many ∙ ap (λ k. goes_on (at_line (words ++ w ∷ []) k [])) left in
-    let first : Goes s (word_bytes word) next [] =
-    subst (λ p. Goes s (word_bytes word) p.0 p.1) step (encoded_word words (suc n) word (All-head (λ (v : List ℕ). length v ≤ longest_announced) word (second ∷ rest) short)) in
+    let step : word_ended (at_word words (suc (suc n)) 1 w) w ≡ goes_on next = cc in
+    let first = rw step at (encoded_word words (suc n) word (All-head (λ (v : List ℕ). length v ≤ longest_announced) word (second ∷ rest) short)) in
     let others = encoded_words (words ++ w ∷ []) second rest (All-tail (λ (v : List ℕ). length v ≤ longest_announced) word (second ∷ rest) short) in
-    subst (λ ws. Goes s (flat_map word_bytes (word ∷ second ∷ rest)) (next_stream (command_read ws)) (command_read ws ∷ [])) (append_assoc words (w ∷ []) (map word_of (second ∷ rest)))
-    (Goes-append first others)
+    rw (append_assoc words (w ∷ []) (map word_of (second ∷ rest))) at (Goes-append first others)
 
 -- a command as it is encoded
 encoded_command : (words : List (List ℕ)) → IsEncodable words → Goes start (command_bytes words) (next_stream (command_read (map word_of words))) (command_read (map word_of words) ∷ [])
-encoded_command [] h = absurd (let some = h.some in omega arith)
+encoded_command [] h = absurd (omega (arith, h.some))
 encoded_command (word ∷ rest) h =
     let n = length (word ∷ rest) in
-    let command = command_read (map word_of (word ∷ rest)) in
     let all = Goes-append (count_goes n h.some h.most) (encoded_words [] word rest h.short) in
-    let same : ((42 ∷ (decimal n ++ 13 ∷ [])) ++ 10 ∷ []) ++ flat_map word_bytes (word ∷ rest) ≡ command_bytes (word ∷ rest) =
-    ap (λ t. 42 ∷ t) (ap (λ t. t ++ flat_map word_bytes (word ∷ rest)) (append_assoc (decimal n) (13 ∷ []) (10 ∷ [])) ∙ append_assoc (decimal n) (13 ∷ 10 ∷ []) (flat_map word_bytes (word ∷ rest))) in
-    subst (λ bytes. Goes start bytes (next_stream command) (command ∷ [])) same all
+    let same : ((42 ∷ (decimal n ++ 13 ∷ [])) ++ 10 ∷ []) ++ flat_map word_bytes (word ∷ rest) ≡ command_bytes (word ∷ rest) = simp append_assoc in
+    rw same at all
 
 -- behind a command that closes the stream no command is read
 after_command : (command : Command) (bytes : List ℕ) (commands : List Command) → commands_after start bytes ≡ commands

@@ -1,30 +1,16 @@
 -- Words that are kept.
-use Rattle.std.proofs.Common.{◌≡◌, ◌<◌, ◌≤◌, ◌+◌, ◌-◌, ℕ, false, List, [], ◌∷◌, ◌++◌, length, map, take, drop, refl, sym, ap, ◌∙◌, append_assoc, arith}
-use Rattle.std.specs.Prelude.{All, filter, nat_lt, if◌then◌else◌}
-use Rattle.std.proofs.lemmas.Grind.{common_steps}
-use Rattle.std.proofs.lemmas.List.{drop-append-le, drop_at, length-append, length-drop, length_push, map-append, map_push, take-append-le, take_all}
-use Rattle.std.proofs.lemmas.List.Elements.{All-head, All-push, All-tail, All-weaker, filter-append}
+use Rattle.silt_resp.proofs.Common.{◌≡◌, ◌<◌, ◌≤◌, ◌+◌, ◌-◌, ℕ, false, List, [], ◌∷◌, ◌++◌, length, take, drop, refl, sym, ap, ◌∙◌, arith, All, nat_lt, if◌then◌else◌, common_steps, drop-append-le}
+use Rattle.silt_resp.proofs.Common.{drop_at, length-drop, take-append-le, take_all, All-head, All-push, All-tail, Whole, FitsValues, HoldsWith, long, longest_word, most_bytes, whole, word_of}
+use Rattle.std.proofs.lemmas.List.{length-append, length_push, map_push}
+use Rattle.std.proofs.lemmas.List.Elements.{All-weaker}
 use Rattle.std.proofs.lemmas.List.Sums.{sum_by_push}
 use Rattle.silt_resp.specs.declared.words.Span.{Span}
-use Rattle.silt_resp.specs.declared.words.Span.TheVariants.{Whole, Long}
-use Rattle.silt_resp.specs.declared.words.Extent.TheVariants.{FitsValues}
-use Rattle.silt_resp.specs.Buffers.{HoldsWith, IsWithin}
+use Rattle.silt_resp.specs.declared.words.Span.TheVariants.{Long}
+use Rattle.silt_resp.specs.Buffers.{IsWithin}
 use Rattle.silt_resp.specs.Words.{word_in, words_in}
-use Rattle.silt_resp.specs.Stream.{Word, kept_len, long, longest_word, most_bytes, most_words, spaced_words, whole, word_of}
+use Rattle.silt_resp.specs.Stream.{Word, kept_len, most_words}
 
 -- ---- words between spaces
-
--- the first part and then the others
-spaced_words-cons : (part : List ℕ) (parts : List (List ℕ)) → spaced_words (part ∷ parts) ≡ spaced_words (part ∷ []) ++ spaced_words parts
-spaced_words-cons part parts =
-    let some = λ (word : List ℕ). nat_lt 0 (length word) in
-    ap (map word_of) (filter-append some (part ∷ []) parts) ∙ map-append word_of (filter some (part ∷ [])) (filter some parts)
-
--- one part more
-pub spaced_more : (so_far all : List Word) (part : List ℕ) (parts rest : List (List ℕ)) → rest ≡ part ∷ parts → so_far ++ spaced_words rest ≡ all
-    → (so_far ++ spaced_words (part ∷ [])) ++ spaced_words parts ≡ all
-spaced_more so_far all part parts rest e h =
-    append_assoc so_far (spaced_words (part ∷ [])) (spaced_words parts) ∙ ap (λ ws. so_far ++ ws) (sym (spaced_words-cons part parts) ∙ ap spaced_words (sym e)) ∙ h
 
 -- ---- bytes behind those of kept words
 
@@ -39,15 +25,13 @@ word_in-grown bytes more Long within = refl
 words_in-grown : (bytes more : List ℕ) (spans : List Span) → All (IsWithin (length bytes)) spans → words_in (bytes ++ more) spans ≡ words_in bytes spans
 words_in-grown bytes more [] within = refl
 words_in-grown bytes more (span ∷ spans) within =
-    ap (λ w. w ∷ words_in (bytes ++ more) spans) (word_in-grown bytes more span (All-head (IsWithin (length bytes)) span spans within))
-    ∙ ap (λ ws. word_in bytes span ∷ ws) (words_in-grown bytes more spans (All-tail (IsWithin (length bytes)) span spans within))
+    cc (word_in-grown bytes more span (All-head (IsWithin (length bytes)) span spans within), words_in-grown bytes more spans (All-tail (IsWithin (length bytes)) span spans within))
 
 -- the last bytes are those of the last word
 word_in-last : (bytes word : List ℕ) → word_in (bytes ++ word) (Whole (length bytes) (length bytes + length word)) ≡ whole word
 word_in-last bytes word =
     let n : length bytes + length word - length bytes ≡ length word = omega arith in
-    ap (λ t. whole (take (length bytes + length word - length bytes) t)) (drop_at bytes word (length bytes) refl)
-    ∙ ap (λ k. whole (take k word)) n ∙ ap (λ t. whole t) (take_all (length word) word (omega arith))
+    cc (drop_at bytes word (length bytes) refl, take_all (length word) word (omega arith))
 
 IsWithin-grown : (bytes more : List ℕ) (span : Span) → IsWithin (length bytes) span → IsWithin (length (bytes ++ more)) span
 IsWithin-grown bytes more (Whole first behind) within = (within.0, (let size = length-append bytes more in omega (arith, size, within.1)))

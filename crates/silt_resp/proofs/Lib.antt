@@ -1,3 +1,4 @@
+pub mod Common
 pub mod Browsers
 pub mod Doing
 pub mod Encoded

@@ -1,25 +1,20 @@
 -- Keys and puts, one word after the other.
-use Rattle.std.proofs.Common.{◌≡◌, ◌<◌, ◌≤◌, ◌+◌, ℕ, suc, List, [], ◌∷◌, ◌++◌, length, drop, get_or, Option, Some, None, Result, Ok, Err, refl, sym, ap, ◌∙◌, append-nil, append_assoc, arith, inl, inr}
-use Rattle.std.specs.Prelude.{All, map, ok_or, slice_get}
-use Rattle.std.proofs.Math.ListN.{drop_of_length-le}
-use Rattle.std.proofs.Math.Seq.{drop-cons}
+use Rattle.silt_resp.proofs.Common.{◌≡◌, ◌<◌, ◌+◌, ℕ, suc, List, [], ◌∷◌, ◌++◌, length, drop, get_or, Option, Some, None, Result, Ok, Err, refl, sym, ap, ◌∙◌, append_assoc, arith, inl, inr, All}
+use Rattle.silt_resp.proofs.Common.{slice_get, drop_of_length-le, drop-cons, slice_get-get_or, Event, Delete, Get, Put, HasValueOf, keys_named, puts_named, long}
+use Rattle.std.specs.Prelude.{map, ok_or}
 use Rattle.std.proofs.lemmas.List.Elements.{All-cons, All-nil}
-use Rattle.std.proofs.lemmas.Option.{get_or_from_slice_get, slice_get-get_or, slice_get_cases, slice_get_within}
+use Rattle.std.proofs.lemmas.Option.{get_or_from_slice_get, slice_get_cases, slice_get_within}
 use Rattle.silt_frame.specs.declared.key.Key.{Key}
-use Rattle.silt_event.specs.declared.event.Event.{Event}
-use Rattle.silt_event.specs.declared.event.Event.TheVariants.{Delete, Get, Put}
-use Rattle.silt_event.specs.Events.{HasValueOf}
 use Rattle.silt_resp.specs.declared.fault.CommandFault.{CommandFault}
 use Rattle.silt_resp.specs.declared.fault.CommandFault.TheVariants.{BadSyntax}
-use Rattle.silt_resp.specs.Arguments.{and_then, key_at, key_named, keys_named, puts_named, value_at, value_named}
-use Rattle.silt_resp.specs.Stream.{Word, long}
+use Rattle.silt_resp.specs.Arguments.{and_then, key_at, key_named, value_at, value_named}
+use Rattle.silt_resp.specs.Stream.{Word}
 
 -- a word that is there comes first of the rest
 pub drop_there : (args : List Word) (index : ℕ) (word : Word) → slice_get args index ≡ Some word → drop index args ≡ word ∷ drop (index + 1) args
 drop_there args index word e =
     let next : suc index ≡ index + 1 = omega arith in
-    let within : index < length args = slice_get_within args index word e in
-    drop-cons args index word within ∙ ap (λ w. w ∷ drop (suc index) args) (get_or_from_slice_get args index word word e) ∙ ap (λ n. word ∷ drop n args) next
+    cc (drop-cons args index word (slice_get_within args index word e), get_or_from_slice_get args index word word e)
 
 -- the word that named something
 named_word : {X : Type 0} (named : Word → Result X CommandFault) (found : Option Word) (x : X) → and_then (ok_or found BadSyntax) named ≡ Ok x
@@ -30,7 +25,7 @@ named_word named (Some word) x e = (word, refl, e)
 -- the word that is there did not
 unnamed_word : {X : Type 0} (named : Word → Result X CommandFault) (found : Option Word) (word : Word) (fault : CommandFault) → found ≡ Some word
     → and_then (ok_or found BadSyntax) named ≡ Err fault → named word ≡ Err fault
-unnamed_word named found word fault is e = sym (ap (λ o. and_then (ok_or o BadSyntax) named) is) ∙ e
+unnamed_word named found word fault is e = cc
 
 -- ---- keys
 
@@ -49,7 +44,7 @@ pub keys_more : (args : List Word) (index : ℕ) (key : Key) (keys : List Key) �
     → keys_named args ≡ keys_with (keys ++ key ∷ []) (drop (index + 1) args)
 keys_more args index key keys e h =
     let found = named_word key_named (slice_get args index) key e in
-    h ∙ ap (keys_with keys) (drop_there args index found.0 found.1) ∙ keys_first (key_named found.0) key (keys_named (drop (index + 1) args)) keys found.2
+    cc (drop_there args index found.0 found.1, keys_first (key_named found.0) key (keys_named (drop (index + 1) args)) keys found.2)
 
 -- a word that names none
 pub keys_fault : (args : List Word) (index : ℕ) (fault : CommandFault) (keys : List Key) → key_at args index ≡ Err fault → index < length args
@@ -57,13 +52,7 @@ pub keys_fault : (args : List Word) (index : ℕ) (fault : CommandFault) (keys :
 keys_fault args index fault keys e within h =
     let word = get_or args index long in
     let found = slice_get-get_or args index long within in
-    let bad = unnamed_word key_named (slice_get args index) word fault found e in
-    h ∙ ap (keys_with keys) (drop_there args index word found)
-    ∙ ap (λ r. and_then (and_then r (λ k. and_then (keys_named (drop (index + 1) args)) (λ ks. Ok (k ∷ ks)))) (λ more. Ok (keys ++ more))) bad
-
--- there are no more words
-pub keys_end : (args : List Word) (index : ℕ) (keys : List Key) → length args ≤ index → keys_named args ≡ keys_with keys (drop index args) → keys_named args ≡ Ok keys
-keys_end args index keys past h = h ∙ ap (keys_with keys) (drop_of_length-le args past) ∙ ap (λ more. Ok more) (append-nil keys)
+    cc (unnamed_word key_named (slice_get args index) word fault found e, drop_there args index word found)
 
 -- ---- puts
 
@@ -78,9 +67,7 @@ puts_first r s key value (Ok ps) puts e f =
     ap (λ q. and_then (and_then q (λ k. and_then s (λ v. Ok (Put k v ∷ ps)))) (λ more. Ok (puts ++ more))) e
     ∙ ap (λ q. and_then (and_then q (λ v. Ok (Put key v ∷ ps))) (λ more. Ok (puts ++ more))) f
     ∙ ap (λ more. Ok more) (sym (append_assoc puts (Put key value ∷ []) ps))
-puts_first r s key value (Err fault) puts e f =
-    ap (λ q. and_then (and_then q (λ k. and_then s (λ v. Err fault))) (λ more. Ok (puts ++ more))) e
-    ∙ ap (λ q. and_then (and_then q (λ v. Err fault)) (λ more. Ok (puts ++ more))) f
+puts_first r s key value (Err fault) puts e f = cc
 
 -- one put more
 pub puts_more : (len : ℕ) (args : List Word) (at : ℕ) (key : Key) (value : List ℕ) (puts : List Event) → key_at args at ≡ Ok key → value_at len args (at + 1) ≡ Ok value
@@ -112,9 +99,7 @@ puts_key_fault len args at fault puts e within h =
 
 bad_value : (len : ℕ) (word next : Word) (words : List Word) (key : Key) (fault : CommandFault) → key_named word ≡ Ok key → value_named len next ≡ Err fault
     → puts_named len (word ∷ next ∷ words) ≡ Err fault
-bad_value len word next words key fault e f =
-    ap (λ r. and_then r (λ k. and_then (value_named len next) (λ value. and_then (puts_named len words) (λ puts. Ok (Put k value ∷ puts))))) e
-    ∙ ap (λ r. and_then r (λ value. and_then (puts_named len words) (λ puts. Ok (Put key value ∷ puts)))) f
+bad_value len word next words key fault e f = cc
 
 no_value : (len : ℕ) (word : Word) (key : Key) → key_named word ≡ Ok key → puts_named len (word ∷ []) ≡ Err BadSyntax
 no_value len word key e = ap (λ r. and_then r (λ k. Err BadSyntax)) e
@@ -133,14 +118,9 @@ puts_value_fault len args at key fault puts e f h =
       | inr past ↦
           let none : Err BadSyntax ≡ Err fault = sym (ap (λ o. and_then (ok_or o BadSyntax) (value_named len)) past.1) ∙ f in
           let same : BadSyntax ≡ fault = cc in
-          ap (λ ws. puts_named len (first.0 ∷ ws)) (drop_of_length-le args past.0) ∙ no_value len first.0 key first.2
-          ∙ ap (λ b. Err b) same
+          cc (drop_of_length-le args past.0, no_value len first.0 key first.2)
     ] in
     h ∙ ap (puts_with len puts) cut ∙ after_fault puts (puts_named len (first.0 ∷ drop (at + 1) args)) fault told
-
--- there are no more words
-pub puts_end : (len : ℕ) (args : List Word) (at : ℕ) (puts : List Event) → length args ≤ at → puts_named len args ≡ puts_with len puts (drop at args) → puts_named len args ≡ Ok puts
-puts_end len args at puts past h = h ∙ ap (puts_with len puts) (drop_of_length-le args past) ∙ ap (λ more. Ok more) (append-nil puts)
 
 -- a value that is there is within the words
 pub value_within : (len : ℕ) (args : List Word) (index : ℕ) (value : List ℕ) → value_at len args index ≡ Ok value → index < length args

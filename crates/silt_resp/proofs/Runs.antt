@@ -1,16 +1,13 @@
 -- What runs of bytes make of a stream.
-use Rattle.std.proofs.Common.{◌≡◌, ◌<◌, ◌≤◌, ◌+◌, ◌-◌, ◌==◌, ℕ, suc, true, false, List, [], ◌∷◌, ◌++◌, length, take, get_or, Some, None, refl, sym, ap, subst, ◌∙◌, append_assoc, arith, inl, inr}
-use Rattle.std.specs.Prelude.{nat_lt, if◌then◌else◌}
+use Rattle.silt_resp.proofs.Common.{◌≡◌, ◌<◌, ◌≤◌, ◌+◌, ◌-◌, ◌==◌, ℕ, suc, true, false, List, [], ◌∷◌, ◌++◌, length, take, get_or, Some, None, refl, sym, ap, subst, ◌∙◌, append_assoc, arith, inl}
+use Rattle.silt_resp.proofs.Common.{inr, nat_lt, if◌then◌else◌, cases_lt, common_steps, length-take-le, Command, Stream, broken, bulk, byte_taken, closed, commands_after, goes_on, line, line_kind}
+use Rattle.silt_resp.proofs.Common.{line_limit, long, stream_after, too_long, whole, word_ended, word_grown, NoFeed}
 use Rattle.std.specs.List.{position, position_or_len}
-use Rattle.std.proofs.lemmas.Bool.{cases_lt}
-use Rattle.std.proofs.lemmas.Grind.{common_steps}
-use Rattle.std.proofs.lemmas.List.{append-nil, get_or-take, length-append, length-take-le, take_more}
+use Rattle.std.proofs.lemmas.List.{append-nil, get_or-take, length-append, take_more}
 use Rattle.std.proofs.lemmas.List.Quantifiers.{position-Some}
 use Rattle.std.proofs.lemmas.List.Sums.{fails_before_first}
 use Rattle.silt_resp.specs.declared.fault.ProtocolFault.TheVariants.{NoCrLf}
-use Rattle.silt_resp.specs.Stream.{Command, Stream, Word, broken, bulk, byte_taken, closed, commands_after, end_byte, ends, goes_on, line, line_closed}
-use Rattle.silt_resp.specs.Stream.{line_grown, line_kind, line_limit, long, stream_after, too_long, whole, word_ended, word_grown}
-use Rattle.silt_resp.specs.Buffers.{NoFeed}
+use Rattle.silt_resp.specs.Stream.{Word, end_byte, ends}
 use Rattle.silt_resp.proofs.Streams.{commands_after-append, stream_after-append}
 
 -- these bytes take one stream to the other, and end these commands
@@ -30,8 +27,7 @@ pub Goes-append : {s t u : Stream} {xs ys : List ℕ} {cs ds : List Command} →
 Goes-append {s} {t} {u} {xs} {ys} {cs} {ds} h k = record {
   stream = stream_after-append s xs ys ∙ ap (λ v. stream_after v ys) h.stream ∙ k.stream;
   commands_are =
-      commands_after-append s xs ys ∙ ap (λ c. c ++ commands_after (stream_after s xs) ys) h.commands_are
-      ∙ ap (λ v. cs ++ commands_after v ys) h.stream ∙ ap (λ c. cs ++ c) k.commands_are;
+      cc (commands_after-append s xs ys, h.commands_are, h.stream, k.commands_are);
 }
 
 -- the first byte, and then the others
@@ -93,16 +89,14 @@ line_step : (words : List Word) (left : ℕ) (bytes : List ℕ) (x : ℕ) → (x
     → byte_taken (at_line words left bytes) x ≡ goes_on (at_line words left (bytes ++ x ∷ []))
 line_step words left bytes x other short =
     let s = at_line words left bytes in
-    ap (λ b. if b then line_closed s bytes (line_kind left bytes) else line_grown s (bytes ++ x ∷ [])) other
-    ∙ ap (λ b. if b then ends (broken (too_long (line_kind left (bytes ++ x ∷ [])))) else goes_on (at_line words left (bytes ++ x ∷ []))) short
+    cc
 
 -- one byte too many
 line_burst : (words : List Word) (left : ℕ) (bytes : List ℕ) (x : ℕ) → (x == 10) ≡ false → nat_lt (line_limit (line_kind left (bytes ++ x ∷ []))) (length (bytes ++ x ∷ [])) ≡ true
     → byte_taken (at_line words left bytes) x ≡ ends (broken (too_long (line_kind left (bytes ++ x ∷ []))))
 line_burst words left bytes x other over =
     let s = at_line words left bytes in
-    ap (λ b. if b then line_closed s bytes (line_kind left bytes) else line_grown s (bytes ++ x ∷ [])) other
-    ∙ ap (λ b. if b then ends (broken (too_long (line_kind left (bytes ++ x ∷ [])))) else goes_on (at_line words left (bytes ++ x ∷ []))) over
+    cc
 
 not_below : (m n : ℕ) → n ≤ m → nat_lt m n ≡ false
 not_below m n h = grind (arith, common_steps)

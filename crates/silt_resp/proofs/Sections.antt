@@ -1,9 +1,7 @@
 -- Which sections words name, one word after the other.
-use Rattle.std.proofs.Common.{◌≡◌, ◌<◌, ◌+◌, ℕ, Bool, true, false, List, length, drop, get_or, Some, ap, ◌∙◌}
-use Rattle.std.specs.Prelude.{◌||◌, slice_get}
-use Rattle.std.specs.List.{list_any}
-use Rattle.std.proofs.lemmas.Option.{slice_get-get_or}
-use Rattle.silt_resp.specs.Stream.{Word, long}
+use Rattle.silt_resp.proofs.Common.{◌≡◌, ◌<◌, ◌+◌, ℕ, Bool, true, false, List, length, drop, get_or, Some, ap, ◌∙◌, slice_get, list_any, slice_get-get_or, long}
+use Rattle.std.specs.Prelude.{◌||◌}
+use Rattle.silt_resp.specs.Stream.{Word}
 use Rattle.silt_resp.proofs.Named.{drop_there}
 
 module _ (test : Word → Bool) (args : List Word) where

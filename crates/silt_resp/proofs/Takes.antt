@@ -1,19 +1,14 @@
 -- What a command buffer took of a stream.
-use Rattle.std.proofs.Common.{◌≡◌, ◌<◌, ◌≤◌, ◌+◌, ◌-◌, ◌==◌, ℕ, zero, suc, Bool, not, true, false, List, [], ◌∷◌, ◌++◌, length, take, drop, refl, sym, ap, subst, ◌∙◌, arith}
-use Rattle.std.specs.Prelude.{nat_lt, nat_le, slice_index, if◌then◌else◌}
-use Rattle.std.proofs.lemmas.Grind.{common_steps}
-use Rattle.std.proofs.Math.Seq.{take-add}
+use Rattle.silt_resp.proofs.Common.{◌≡◌, ◌<◌, ◌≤◌, ◌+◌, ◌-◌, ◌==◌, ℕ, zero, suc, Bool, not, true, false, List, [], ◌∷◌, ◌++◌, length, take, drop, refl, sym, ap, subst, ◌∙◌, arith, nat_lt, nat_le}
+use Rattle.silt_resp.proofs.Common.{slice_index, if◌then◌else◌, common_steps, take-add, Line, Broken, CommandBuffer, ProtocolFault, WordLength, HoldsStream, HoldsWords, IsPiece, NoFeed, TakesInput}
+use Rattle.silt_resp.proofs.Common.{Command, Stream, broken, bulk, byte_taken, closed, command_read, inline_words, line, line_kind, line_limit, next_stream, start, stream_after, too_long}
+use Rattle.silt_resp.proofs.Common.{word_ended, word_grown}
 use Rattle.std.proofs.lemmas.List.{length-append}
-use Rattle.silt_resp.specs.declared.command_buffer.BufferPlace.{BufferPlace}
-use Rattle.silt_resp.specs.declared.command_buffer.BufferPlace.TheVariants.{Line, Word, Broken}
-use Rattle.silt_resp.specs.declared.command_buffer.CommandBuffer.{CommandBuffer}
-use Rattle.silt_resp.specs.declared.fault.ProtocolFault.{ProtocolFault}
+use Rattle.silt_resp.specs.declared.command_buffer.BufferPlace.TheVariants.{Word}
 use Rattle.silt_resp.specs.declared.heads.LineKind.{LineKind}
-use Rattle.silt_resp.specs.declared.heads.LineKind.TheVariants.{Inline, Count, WordLength}
-use Rattle.silt_resp.specs.Buffers.{HoldsCommand, HoldsEnded, HoldsStreamPlace, HoldsStream, HoldsWords, IsPiece, NoFeed, TakesInput}
-use Rattle.silt_resp.specs.Stream.{Command, Place, Stream, Word as WordOf, broken, bulk, byte_taken, closed, command_read, commands_after, ends, goes_on}
-use Rattle.silt_resp.specs.Stream.{inline_ended, inline_words, line, line_closed, line_kind, line_limit, next_stream, start, stream_after, too_long, word_ended}
-use Rattle.silt_resp.specs.Stream.{word_grown}
+use Rattle.silt_resp.specs.declared.heads.LineKind.TheVariants.{Inline, Count}
+use Rattle.silt_resp.specs.Buffers.{HoldsCommand, HoldsStreamPlace}
+use Rattle.silt_resp.specs.Stream.{Place, Word as WordOf, inline_ended, line_closed}
 use Rattle.silt_resp.proofs.Runs.{Goes, Goes-byte, at_end, at_line, at_word, closed_run, line_over, line_run, word_run}
 use Rattle.silt_resp.proofs.Streams.{commands_after-append, stream_after-append}
 
@@ -30,38 +25,25 @@ takes_command s bytes command buffer goes holds = (command, holds, goes.commands
 pub takes_more : (s : Stream) (xs ys : List ℕ) (ended : Bool) (mid buffer : CommandBuffer) → TakesInput s xs false mid → ((t : Stream) → HoldsStream mid t → TakesInput t ys ended buffer)
     → TakesInput s (xs ++ ys) ended buffer
 takes_more s xs ys true mid buffer h more =
-    let t = stream_after s xs in
-    let rest = more t h.0 in (
-      rest.0,
-      rest.1,
-      commands_after-append s xs ys ∙ ap (λ cs. cs ++ commands_after t ys) h.1 ∙ rest.2,
-      stream_after-append s xs ys ∙ rest.3,
-    )
+    let rest = more (stream_after s xs) h.0 in
+    (rest.0, rest.1, cc (commands_after-append s xs ys, h.1, rest.2), cc (stream_after-append s xs ys, rest.3))
 takes_more s xs ys false mid buffer h more =
-    let t = stream_after s xs in
-    let rest = more t h.0 in (
-      subst (λ u. HoldsStream buffer u) (sym (stream_after-append s xs ys)) rest.0,
-      commands_after-append s xs ys ∙ ap (λ cs. cs ++ commands_after t ys) h.1 ∙ rest.1,
-    )
+    let rest = more (stream_after s xs) h.0 in
+    (rw (stream_after-append s xs ys) rest.0, cc (commands_after-append s xs ys, h.1, rest.1))
 
 -- some bytes more of the same ones
 pub takes_part : (s : Stream) (bytes rest : List ℕ) (done count : ℕ) (ended : Bool) (mid buffer : CommandBuffer) → TakesInput s (take done bytes) false mid → rest ≡ drop done bytes
     → ((t : Stream) → HoldsStream mid t → TakesInput t (take count rest) ended buffer) → TakesInput s (take (done + count) bytes) ended buffer
 takes_part s bytes rest done count ended mid buffer h is more =
-    subst (λ xs. TakesInput s xs ended buffer) (sym (take-add done count bytes))
-    (takes_more s (take done bytes) (take count (drop done bytes)) ended mid buffer h (λ t k. subst (λ r. TakesInput t (take count r) ended buffer) is (more t k)))
+    rw (take-add done count bytes) (takes_more s (take done bytes) (take count (drop done bytes)) ended mid buffer h (λ t k. rw is at (more t k)))
 
 -- behind bytes that begin no command others change nothing
 pub takes_behind : (s : Stream) (xs ys : List ℕ) (fault : ProtocolFault) (buffer : CommandBuffer) → buffer.place ≡ Broken fault → TakesInput s xs true buffer → TakesInput s (xs ++ ys) true buffer
 takes_behind s xs ys fault buffer is h =
-    let broke : h.0 ≡ broken fault = subst (λ p. HoldsEnded p buffer.words h.0) is h.1 in
-    let t : stream_after s xs ≡ at_end [] 0 = h.3 ∙ ap next_stream broke in
-    let rest = closed_run [] 0 ys in (
-      h.0,
-      h.1,
-      commands_after-append s xs ys ∙ ap (λ u. commands_after s xs ++ commands_after u ys) t ∙ ap (λ cs. commands_after s xs ++ cs) rest.commands_are ∙ ap (λ cs. cs ++ []) h.2,
-      stream_after-append s xs ys ∙ ap (λ u. stream_after u ys) t ∙ rest.stream ∙ sym (ap next_stream broke),
-    )
+    let broke : h.0 ≡ broken fault = rw is at h.1 in
+    let t : stream_after s xs ≡ at_end [] 0 = cc (h.3) in
+    let rest = closed_run [] 0 ys in
+    (h.0, h.1, cc (commands_after-append s xs ys, rest.commands_are, h.2), cc (stream_after-append s xs ys, rest.stream))
 
 -- ---- lines
 
@@ -74,7 +56,7 @@ line_place left piece closed h = absurd h
 pub line_held : (b : CommandBuffer) (s : Stream) → b.place ≡ Line → HoldsStream b s
     → (s ≡ at_line s.words s.left b.piece.items) × (length b.piece.items ≤ line_limit (line_kind s.left b.piece.items))
 line_held b s is h =
-    let parts = line_place s.left b.piece.items s.place (subst (λ p. HoldsStreamPlace s.left p b.piece.items s.place) is h.place) in
+    let parts = line_place s.left b.piece.items s.place (rw is at h.place) in
     (ap (λ p. let t : Stream = record { words = s.words; left = s.left; place = p } in t) parts.0, parts.1)
 
 limit-more : (left : ℕ) (piece xs : List ℕ) → length piece ≤ line_limit (line_kind left piece) → length piece ≤ line_limit (line_kind left (piece ++ xs))
@@ -82,7 +64,7 @@ limit-more left [] xs h = omega arith
 limit-more left (b ∷ bytes) xs h = h
 
 holds_broken : (buffer : CommandBuffer) (fault : ProtocolFault) → buffer.place ≡ Broken fault → HoldsCommand buffer (broken fault)
-holds_broken buffer fault is = let P : BufferPlace → Type 0 = λ p. HoldsEnded p buffer.words (broken fault) in subst P (sym is) refl
+holds_broken buffer fault is = rw is refl
 
 -- a line that gets too long
 pub takes_over : (old new : CommandBuffer) (s : Stream) (xs : List ℕ) (kind : LineKind) → old.place ≡ Line → HoldsStream old s → NoFeed xs → kind ≡ line_kind old.left (old.piece.items ++ xs)
@@ -90,14 +72,10 @@ pub takes_over : (old new : CommandBuffer) (s : Stream) (xs : List ℕ) (kind : 
 takes_over old new s xs kind is h none e over broke =
     let held = line_held old s is h in
     let piece = old.piece.items in
-    let same : kind ≡ line_kind s.left (piece ++ xs) = e ∙ ap (λ n. line_kind n (piece ++ xs)) h.left in
-    let size = length-append piece xs in
-    let longer : line_limit (line_kind s.left (piece ++ xs)) < length (piece ++ xs) =
-    subst (λ k. line_limit k < length (piece ++ xs)) same (omega (arith, size)) in
+    let same : kind ≡ line_kind s.left (piece ++ xs) = cc (h.left) in
+    let longer : line_limit (line_kind s.left (piece ++ xs)) < length (piece ++ xs) = rw (← same) (omega (arith, length-append piece xs)) in
     let goes = line_over s.words s.left piece xs none (limit-more s.left piece xs held.1) longer in
-    let P : Stream → Type 0 = λ t. Goes t xs (at_end [] 0) (broken (too_long (line_kind s.left (piece ++ xs))) ∷ []) in
-    let Q : LineKind → Type 0 = λ k. Goes s xs (at_end [] 0) (broken (too_long k) ∷ []) in
-    takes_command s xs (broken (too_long kind)) new (subst Q (sym same) (subst P (sym held.0) goes)) (holds_broken new (too_long kind) broke)
+    takes_command s xs (broken (too_long kind)) new (rw (held.0, same) goes) (holds_broken new (too_long kind) broke)
 
 -- a line that does not
 pub takes_line : (old new : CommandBuffer) (s : Stream) (xs : List ℕ) (kind : LineKind) → old.place ≡ Line → HoldsStream old s → NoFeed xs → kind ≡ line_kind old.left (old.piece.items ++ xs)
@@ -105,19 +83,10 @@ pub takes_line : (old new : CommandBuffer) (s : Stream) (xs : List ℕ) (kind : 
 takes_line old new s xs kind is h none e short words left place piece =
     let held = line_held old s is h in
     let bytes = old.piece.items in
-    let same : kind ≡ line_kind s.left (bytes ++ xs) = e ∙ ap (λ n. line_kind n (bytes ++ xs)) h.left in
-    let size = length-append bytes xs in
-    let fits : length (bytes ++ xs) ≤ line_limit (line_kind s.left (bytes ++ xs)) =
-    subst (λ k. length (bytes ++ xs) ≤ line_limit k) same (omega (arith, size)) in
-    let goes = line_run s.words s.left bytes xs none fits in
-    let P : Stream → Type 0 = λ t. Goes t xs (at_line s.words s.left (bytes ++ xs)) [] in
-    let At : BufferPlace → List ℕ → Type 0 = λ p l. HoldsStreamPlace s.left p l (line (bytes ++ xs)) in
-    takes_on s (at_line s.words s.left (bytes ++ xs)) xs new (subst P (sym held.0) goes)
-    (record {
-      words = subst (λ w. HoldsWords w s.words) (sym words) h.words;
-      left = left ∙ h.left;
-      place = subst (λ p. At p new.piece.items) (sym place) (subst (At Line) (sym piece) (refl, fits));
-    })
+    let same : kind ≡ line_kind s.left (bytes ++ xs) = cc (h.left) in
+    let fits : length (bytes ++ xs) ≤ line_limit (line_kind s.left (bytes ++ xs)) = rw (← same) (omega (arith, length-append bytes xs)) in
+    takes_on s (at_line s.words s.left (bytes ++ xs)) xs new (rw held.0 (line_run s.words s.left bytes xs none fits))
+    (record { words = rw words h.words; left = left ∙ h.left; place = rw (place, piece) (refl, fits) })
 
 -- the line feed of a line
 feed_taken : (s : Stream) (piece : List ℕ) (kind : LineKind) → s ≡ at_line s.words s.left piece → line_kind s.left piece ≡ kind
@@ -134,21 +103,16 @@ not_due (suc left) bytes kind e other =
 -- a buffer at the start of a line
 holds_line : (buffer : CommandBuffer) (words : List WordOf) (left : ℕ) → HoldsWords buffer.words words → buffer.left ≡ left → buffer.place ≡ Line → buffer.piece.items ≡ []
     → HoldsStream buffer (at_line words left [])
-holds_line buffer words left holds due place piece =
-    let At : BufferPlace → List ℕ → Type 0 = λ p l. HoldsStreamPlace left p l (line []) in
-    record { words = holds; left = due; place = subst (λ p. At p buffer.piece.items) (sym place) (subst (At Line) (sym piece) (refl, omega arith)) }
+holds_line buffer words left holds due place piece = record { words = holds; left = due; place = rw (place, piece) (refl, omega arith) }
 
 inline_cases : (new : CommandBuffer) (s : Stream) (ended : Bool) (words : List WordOf) → byte_taken s 10 ≡ inline_ended words → HoldsWords new.words words → new.left ≡ 0 → new.place ≡ Line
     → new.piece.items ≡ [] → ended ≡ not (length words == 0) → TakesInput s (10 ∷ []) ended new
 inline_cases new s ended [] step holds left place piece told =
-    let P : Bool → Type 0 = λ b. TakesInput s (10 ∷ []) b new in
-    subst P (sym told) (takes_on s start (10 ∷ []) new (Goes-byte s 10 start [] step) (holds_line new [] 0 holds left place piece))
+    rw told (takes_on s start (10 ∷ []) new (Goes-byte s 10 start [] step) (holds_line new [] 0 holds left place piece))
 inline_cases new s ended (word ∷ words) step holds left place piece told =
     let command = command_read (word ∷ words) in
-    let P : Bool → Type 0 = λ b. TakesInput s (10 ∷ []) b new in
-    let E : BufferPlace → Type 0 = λ p. HoldsEnded p new.words command in
     let some : not (length (word ∷ words) == 0) ≡ true = grind (arith, common_steps) in
-    subst P (sym (told ∙ some)) (takes_command s (10 ∷ []) command new (Goes-byte s 10 (next_stream command) (command ∷ []) step) (subst E (sym place) (word ∷ words, holds, refl)))
+    rw (told, some) (takes_command s (10 ∷ []) command new (Goes-byte s 10 (next_stream command) (command ∷ []) step) (rw place (word ∷ words, holds, refl)))
 
 -- a command without marks
 pub takes_inline : (old new : CommandBuffer) (s : Stream) (ended : Bool) (words : List WordOf) → old.place ≡ Line → HoldsStream old s → line_kind old.left old.piece.items ≡ Inline
@@ -156,10 +120,9 @@ pub takes_inline : (old new : CommandBuffer) (s : Stream) (ended : Bool) (words 
     → TakesInput s (10 ∷ []) ended new
 takes_inline old new s ended words is h kind are holds left place piece told =
     let held = line_held old s is h in
-    let step : byte_taken s 10 ≡ inline_ended words =
-    feed_taken s old.piece.items Inline held.0 (ap (λ n. line_kind n old.piece.items) (sym h.left) ∙ kind) ∙ ap inline_ended (sym are) in
+    let taken = feed_taken s old.piece.items Inline held.0 (rw (← h.left) kind) in
     let none : old.left ≡ 0 = not_due old.left old.piece.items Inline kind (λ e. absurd (cc)) in
-    inline_cases new s ended words step holds (left ∙ none) place piece told
+    inline_cases new s ended words (rw are taken) holds (left ∙ none) place piece told
 
 -- ---- words
 
@@ -173,7 +136,7 @@ word_place left due is_long piece closed h = absurd h
 pub word_held : (b : CommandBuffer) (s : Stream) (due : ℕ) (is_long : Bool) → b.place ≡ Word due is_long → HoldsStream b s
     → (word : WordOf) × (s ≡ at_word s.words s.left due word) × IsPiece is_long due b.piece.items word
 word_held b s due is_long is h =
-    let parts = word_place s.left due is_long b.piece.items s.place (subst (λ p. HoldsStreamPlace s.left p b.piece.items s.place) is h.place) in
+    let parts = word_place s.left due is_long b.piece.items s.place (rw is at h.place) in
     (parts.0, ap (λ p. let t : Stream = record { words = s.words; left = s.left; place = p } in t) parts.1, parts.2)
 
 at_most : (n m : ℕ) → n ≤ m → nat_le n m ≡ true
@@ -205,18 +168,12 @@ pub takes_run : (old new : CommandBuffer) (s : Stream) (due count : ℕ) (is_lon
     → TakesInput s xs false new
 takes_run old new s due count is_long xs is h size room words left place piece =
     let held = word_held old s due is_long is h in
-    let word = held.0 in
-    let goes = word_run s.words s.left due word xs (omega arith) in
-    let P : Stream → Type 0 = λ t. Goes t xs (at_word s.words s.left (due - length xs) (word_grown word xs)) [] in
-    let next = at_word s.words s.left (due - length xs) (word_grown word xs) in
-    let At : BufferPlace → List ℕ → Type 0 = λ p l. HoldsStreamPlace s.left p l (bulk (due - length xs) (word_grown word xs)) in
-    takes_on s next xs new (subst P (sym held.1) goes)
+    let next = at_word s.words s.left (due - length xs) (word_grown held.0 xs) in
+    takes_on s next xs new (subst (λ (t : Stream). Goes t xs next []) (sym held.1) (word_run s.words s.left due held.0 xs (omega arith)))
     (record {
-      words = subst (λ w. HoldsWords w s.words) (sym words) h.words;
+      words = rw words h.words;
       left = left ∙ h.left;
-      place =
-          subst (λ p. At p new.piece.items) (sym place) (subst (At (Word (due - count) is_long)) (sym piece)
-          (ap (λ k. due - k) (sym size), more_word is_long word old.piece.items xs due count size room held.2));
+      place = rw (place, piece) (ap (λ k. due - k) (sym size), more_word is_long held.0 old.piece.items xs due count size room held.2);
     })
 
 -- the line feed behind a word
@@ -231,18 +188,13 @@ pub takes_last : (old new : CommandBuffer) (s : Stream) (word : WordOf) → Hold
     → new.place ≡ Line → TakesInput s (10 ∷ []) true new
 takes_last old new s word h step holds last place =
     let command = command_read (s.words ++ word ∷ []) in
-    let few : nat_le s.left 1 ≡ true = at_most s.left 1 (subst (λ n. n ≤ 1) h.left last) in
-    let taken : byte_taken s 10 ≡ ends command =
-    step ∙ ap (λ c. if c then ends command else goes_on (at_line (s.words ++ word ∷ []) (s.left - 1) [])) few in
-    let P : BufferPlace → Type 0 = λ p. HoldsEnded p new.words command in
-    takes_command s (10 ∷ []) command new (Goes-byte s 10 (next_stream command) (command ∷ []) taken) (subst P (sym place) (s.words ++ word ∷ [], holds, refl))
+    let few = at_most s.left 1 (rw h.left at last) in
+    takes_command s (10 ∷ []) command new (Goes-byte s 10 (next_stream command) (command ∷ []) (cc)) (rw place (s.words ++ word ∷ [], holds, refl))
 
 -- another word
 pub takes_word : (old new : CommandBuffer) (s : Stream) (word : WordOf) → HoldsStream old s → byte_taken s 10 ≡ word_ended s word → HoldsWords new.words (s.words ++ word ∷ []) → 1 < old.left
     → new.left ≡ old.left - 1 → new.place ≡ Line → new.piece.items ≡ [] → TakesInput s (10 ∷ []) false new
 takes_word old new s word h step holds more left place piece =
     let next = at_line (s.words ++ word ∷ []) (s.left - 1) [] in
-    let many : nat_le s.left 1 ≡ false = above s.left 1 (subst (λ n. 1 < n) h.left more) in
-    let taken : byte_taken s 10 ≡ goes_on next =
-    step ∙ ap (λ c. if c then ends (command_read (s.words ++ word ∷ [])) else goes_on next) many in
-    takes_on s next (10 ∷ []) new (Goes-byte s 10 next [] taken) (holds_line new (s.words ++ word ∷ []) (s.left - 1) holds (left ∙ ap (λ n. n - 1) h.left) place piece)
+    let many = above s.left 1 (rw h.left at more) in
+    takes_on s next (10 ∷ []) new (Goes-byte s 10 next [] (cc)) (holds_line new (s.words ++ word ∷ []) (s.left - 1) holds (cc (h.left)) place piece)

@@ -1,5 +1,4 @@
-use Rattle.std.proofs.Common.{◌≡◌, ◌<◌, Err, arith, length, rules, sym}
-use Rattle.silt_resp.specs.Arguments.{keys_named}
+use Rattle.silt_resp.proofs.Common.{◌≡◌, ◌<◌, Err, arith, length, rules, sym, keys_named}
 use Rattle.silt_resp.proofs.Named.{keys_fault, keys_more}
 use Rattle.silt_resp.proofs.arguments.keys_named.Goals as goal
 
@@ -11,5 +10,4 @@ returns-in_err-key c =
     search (rules, told)
 
 pub loop-index-preserved : goal.loop-index-preserved
-loop-index-preserved c =
-    rw c.in_ok-push.ensures.items (keys_more c.args.args.now c.loop-index.index c.in_ok-key.key c.loop-index.keys.items (sym c.in_ok-key.ensures) c.loop-index.invariant)
+loop-index-preserved c = rw c.in_ok-push.ensures.items (keys_more c.args.args.now c.loop-index.index c.in_ok-key.key c.loop-index.keys.items (sym c.in_ok-key.ensures) c.loop-index.invariant)

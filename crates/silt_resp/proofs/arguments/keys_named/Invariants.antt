@@ -1,5 +1,4 @@
-use Rattle.std.proofs.Common.{◌≡◌, drop}
-use Rattle.silt_resp.specs.Arguments.{keys_named}
+use Rattle.silt_resp.proofs.Common.{◌≡◌, drop, keys_named}
 use Rattle.silt_resp.proofs.Named.{keys_with}
 use Rattle.silt_resp.proofs.arguments.keys_named.Given as goal
 

@@ -1,8 +1,4 @@
-use Rattle.std.proofs.Common.{◌≡◌, ◌+◌, ◌<◌, Err, arith, inl, inr, length, rules, sym}
-use Rattle.std.proofs.lemmas.List.Elements.{All-push}
-use Rattle.silt_event.specs.declared.event.Event.TheVariants.{Put}
-use Rattle.silt_event.specs.Events.{HasValueOf}
-use Rattle.silt_resp.specs.Arguments.{puts_named}
+use Rattle.silt_resp.proofs.Common.{◌≡◌, ◌+◌, ◌<◌, Err, arith, inl, inr, length, rules, sym, All-push, Put, HasValueOf, puts_named}
 use Rattle.silt_resp.proofs.Named.{puts_key_fault, puts_more, puts_value_fault, value_within}
 use Rattle.silt_resp.proofs.arguments.puts_named.Goals as goal
 

@@ -1,7 +1,4 @@
-use Rattle.std.proofs.Common.{◌≡◌, ◌-◌, drop, length}
-use Rattle.std.specs.Prelude.{All}
-use Rattle.silt_event.specs.Events.{HasValueOf}
-use Rattle.silt_resp.specs.Arguments.{puts_named}
+use Rattle.silt_resp.proofs.Common.{◌≡◌, ◌-◌, drop, length, All, HasValueOf, puts_named}
 use Rattle.silt_resp.proofs.Named.{puts_with}
 use Rattle.silt_resp.proofs.arguments.puts_named.Given as goal
 

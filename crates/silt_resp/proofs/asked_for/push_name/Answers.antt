@@ -1,6 +1,5 @@
-use Rattle.std.proofs.Common.{◌≡◌, ◌≤◌, ◌++◌, ◌∙◌, ap, arith, length, map, rules, take}
-use Rattle.std.proofs.lemmas.List.{take_all}
-use Rattle.silt_resp.specs.Commands.{shown_byte}
+use Rattle.silt_resp.proofs.Common.{◌≡◌, ◌≤◌, ◌++◌, ◌∙◌, ap, arith, length, rules, take, take_all, shown_byte}
+use Rattle.std.proofs.Common.{map}
 use Rattle.silt_resp.proofs.Doing.{shown_part}
 use Rattle.silt_resp.proofs.asked_for.push_name.Goals as goal
 

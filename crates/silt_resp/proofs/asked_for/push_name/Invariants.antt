@@ -1,5 +1,5 @@
-use Rattle.std.proofs.Common.{◌≡◌, ◌++◌, map, take}
-use Rattle.silt_resp.specs.Commands.{shown_byte}
+use Rattle.silt_resp.proofs.Common.{◌≡◌, ◌++◌, take, shown_byte}
+use Rattle.std.proofs.Common.{map}
 use Rattle.silt_resp.proofs.asked_for.push_name.Given as goal
 
 -- the bytes so far are there

@@ -1,4 +1,5 @@
-use Rattle.std.proofs.Common.{[], ◌∷◌, ◌++◌, ◌∙◌, ap, append_assoc, codes, sym}
+use Rattle.silt_resp.proofs.Common.{[], ◌∷◌, ◌++◌, ◌∙◌, ap, append_assoc, sym}
+use Rattle.std.proofs.Common.{codes}
 use Rattle.silt_resp.specs.Commands.{shown_name}
 use Rattle.silt_resp.proofs.Doing.{three_appended}
 use Rattle.silt_resp.proofs.asked_for.push_unknown.Goals as goal

@@ -1,6 +1,6 @@
-use Rattle.std.proofs.Common.{◌≡◌, ◌++◌, ◌∙◌, OnOk, ap, map, rules, subst, sym}
+use Rattle.silt_resp.proofs.Common.{◌≡◌, ◌++◌, ◌∙◌, ap, rules, subst, sym, due_seen, part_text}
+use Rattle.std.proofs.Common.{OnOk, map}
 use Rattle.silt_event.specs.Queries.{replies as replied}
-use Rattle.silt_resp.specs.Batches.{due_seen, part_text}
 use Rattle.silt_resp.specs.Texts.{text_of}
 use Rattle.silt_resp.proofs.Doing.{replies_in-map}
 use Rattle.silt_resp.proofs.batch.push_due.Goals as goal

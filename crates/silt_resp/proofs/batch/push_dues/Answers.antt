@@ -1,6 +1,6 @@
-use Rattle.std.proofs.Common.{◌<◌, ◌++◌, ◌∙◌, ap, append_assoc, arith, drop, length, map, rules}
+use Rattle.silt_resp.proofs.Common.{◌<◌, ◌++◌, ◌∙◌, ap, append_assoc, arith, drop, length, rules, due_seen, part_text, part_texts}
+use Rattle.std.proofs.Common.{map}
 use Rattle.silt_event.specs.Queries.{replies as replied}
-use Rattle.silt_resp.specs.Batches.{due_seen, part_text, part_texts}
 use Rattle.silt_resp.proofs.Doing.{due_more, on-err}
 use Rattle.silt_resp.proofs.batch.push_dues.Goals as goal
 

@@ -1,6 +1,6 @@
-use Rattle.std.proofs.Common.{◌≡◌, ◌++◌, ℕ, List, drop, map}
+use Rattle.silt_resp.proofs.Common.{◌≡◌, ◌++◌, ℕ, List, drop, due_seen, part_texts}
+use Rattle.std.proofs.Common.{map}
 use Rattle.silt_event.specs.Queries.{replies as replied}
-use Rattle.silt_resp.specs.Batches.{due_seen, part_texts}
 use Rattle.silt_resp.proofs.batch.push_dues.Given as goal
 
 -- these texts are there, and with those of the rest they are all

@@ -1,5 +1,4 @@
-use Rattle.std.proofs.Common.{◌<◌, ◌∙◌, arith, length, sym}
-use Rattle.silt_resp.specs.Info.{is_section}
+use Rattle.silt_resp.proofs.Common.{◌<◌, ◌∙◌, arith, length, sym, is_section}
 use Rattle.silt_resp.proofs.Sections.{any_found, any_more}
 use Rattle.silt_resp.proofs.info.has_section.Goals as goal
 

@@ -1,6 +1,4 @@
-use Rattle.std.proofs.Common.{◌≡◌, drop}
-use Rattle.std.specs.List.{list_any}
-use Rattle.silt_resp.specs.Info.{is_section}
+use Rattle.silt_resp.proofs.Common.{◌≡◌, drop, list_any, is_section}
 use Rattle.silt_resp.proofs.info.has_section.Given as goal
 
 abbrev pub invariant-loop-index : goal.invariant-loop-index

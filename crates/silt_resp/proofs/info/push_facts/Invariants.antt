@@ -1,4 +1,5 @@
-use Rattle.std.proofs.Common.{◌≡◌, ◌++◌, flat_map, map, take}
+use Rattle.silt_resp.proofs.Common.{◌≡◌, ◌++◌, take}
+use Rattle.std.proofs.Common.{flat_map, map}
 use Rattle.silt_resp.specs.Info.{info_line}
 use Rattle.silt_resp.proofs.info.push_facts.Given as goal
 

@@ -1,7 +1,6 @@
-use Rattle.std.proofs.Common.{◌++◌, ◌∙◌, ap, map}
-use Rattle.std.proofs.lemmas.List.Elements.{All-append, All-same}
-use Rattle.silt_event.specs.declared.event.Event.TheVariants.{Delete, Get}
-use Rattle.silt_event.specs.Events.{HasValueOf}
+use Rattle.silt_resp.proofs.Common.{◌++◌, ◌∙◌, ap, All-same, Delete, Get, HasValueOf}
+use Rattle.std.proofs.Common.{map}
+use Rattle.std.proofs.lemmas.List.Elements.{All-append}
 use Rattle.silt_resp.proofs.Named.{deletes_fit, looks_fit}
 use Rattle.silt_resp.proofs.key_commands.delete.Goals as goal
 

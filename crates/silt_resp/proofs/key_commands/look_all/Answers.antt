@@ -1,7 +1,5 @@
-use Rattle.std.proofs.Common.{◌++◌, ◌∙◌, ap, map}
-use Rattle.std.proofs.lemmas.List.Elements.{All-same}
-use Rattle.silt_event.specs.declared.event.Event.TheVariants.{Get}
-use Rattle.silt_event.specs.Events.{HasValueOf}
+use Rattle.silt_resp.proofs.Common.{◌++◌, ◌∙◌, ap, All-same, Get, HasValueOf}
+use Rattle.std.proofs.Common.{map}
 use Rattle.silt_resp.proofs.Named.{looks_fit}
 use Rattle.silt_resp.proofs.key_commands.look_all.Goals as goal
 

@@ -1,5 +1,5 @@
-use Rattle.std.proofs.Common.{◌≡◌, ◌++◌, map, take}
-use Rattle.silt_event.specs.declared.event.Event.TheVariants.{Delete}
+use Rattle.silt_resp.proofs.Common.{◌≡◌, ◌++◌, take, Delete}
+use Rattle.std.proofs.Common.{map}
 use Rattle.silt_resp.proofs.key_commands.push_deletes.Given as goal
 
 -- the events of the keys so far are there

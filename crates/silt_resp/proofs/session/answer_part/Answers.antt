@@ -1,10 +1,5 @@
-use Rattle.std.proofs.Common.{Bool, List, Some, rules, subst, take, ℕ}
-use Rattle.silt_wire.specs.Sessions.{IsBeginning}
-use Rattle.std.specs.Io.KnownBytes.{Appends}
-use Rattle.silt_event.specs.Queries.{AnswersQuery}
+use Rattle.silt_resp.proofs.Common.{Bool, List, Some, rules, subst, take, ℕ, IsBeginning, Appends, AnswersQuery, IsBehind, ServesCommands, asked_after}
 use Rattle.silt_wire.proofs.Answering.{if-either}
-use Rattle.silt_resp.specs.Batches.{IsBehind}
-use Rattle.silt_resp.specs.Sessions.{ServesCommands, asked_after}
 use Rattle.silt_resp.proofs.Doing.{all-wrote, closed-part, some-taken, some-written}
 use Rattle.silt_resp.proofs.session.answer_part.Goals as goal
 

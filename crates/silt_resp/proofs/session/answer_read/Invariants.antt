@@ -1,7 +1,4 @@
-use Rattle.std.proofs.Common.{◌≡◌, ◌≤◌, ◌-◌, length, take}
-use Rattle.silt_event.specs.Queries.{AnswersQuery}
-use Rattle.silt_resp.specs.Batches.{HoldsClient}
-use Rattle.silt_resp.specs.Sessions.{Client, ServesCommands, client_after}
+use Rattle.silt_resp.proofs.Common.{◌≡◌, ◌≤◌, ◌-◌, length, take, AnswersQuery, HoldsClient, Client, ServesCommands, client_after}
 use Rattle.silt_resp.proofs.session.answer_read.Given as goal
 
 abbrev pub invariant-loop-done : goal.invariant-loop-done

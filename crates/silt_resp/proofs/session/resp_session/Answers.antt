@@ -1,4 +1,4 @@
-use Rattle.silt_event.specs.Queries.{AnswersQuery}
+use Rattle.silt_resp.proofs.Common.{AnswersQuery}
 use Rattle.silt_resp.proofs.Browsers.{http_nothing}
 use Rattle.silt_resp.proofs.session.resp_session.Goals as goal
 

@@ -1,8 +1,5 @@
-use Rattle.std.proofs.Common.{◌++◌, subst, sym, take}
-use Rattle.silt_event.specs.Queries.{AnswersQuery}
+use Rattle.silt_resp.proofs.Common.{◌++◌, subst, sym, take, AnswersQuery, HoldsClient, Client, new_client}
 use Rattle.silt_wire.proofs.Streams.{Consumes-append, Consumes-keeps}
-use Rattle.silt_resp.specs.Batches.{HoldsClient}
-use Rattle.silt_resp.specs.Sessions.{Client, new_client}
 use Rattle.silt_resp.proofs.Doing.{all-bytes, client_after-append, ends-bytes, last_cut}
 use Rattle.silt_resp.proofs.session.session_over.Goals as goal
 use Rattle.silt_resp.proofs.session.session_over.Goals.{in-Err, in-Ok+in-Ok-answer_read}

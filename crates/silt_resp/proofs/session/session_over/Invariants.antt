@@ -1,8 +1,4 @@
-use Rattle.std.proofs.Common.{◌≡◌, ℕ, List}
-use Rattle.std.specs.Io.KnownBytes.{Consumes}
-use Rattle.silt_event.specs.Queries.{AnswersQuery}
-use Rattle.silt_resp.specs.Batches.{HoldsClient}
-use Rattle.silt_resp.specs.Sessions.{ServesCommands, client_after, new_client}
+use Rattle.silt_resp.proofs.Common.{◌≡◌, ℕ, List, Consumes, AnswersQuery, HoldsClient, ServesCommands, client_after, new_client}
 use Rattle.silt_resp.proofs.session.session_over.Given as goal
 
 abbrev pub invariant-loop : goal.invariant-loop

@@ -1,6 +1,4 @@
-use Rattle.std.proofs.Common.{[], Some}
-use Rattle.silt_event.specs.Queries.{AnswersQuery}
-use Rattle.silt_resp.specs.Sessions.{asked_after}
+use Rattle.silt_resp.proofs.Common.{[], Some, AnswersQuery, asked_after}
 use Rattle.silt_resp.proofs.Doing.{if-ok, on-err, some-begun, some-from_all}
 use Rattle.silt_resp.proofs.session.take_part.Goals as goal
 

@@ -1,4 +1,4 @@
-use Rattle.std.proofs.Common.{◌≡◌, ◌++◌, take}
+use Rattle.silt_resp.proofs.Common.{◌≡◌, ◌++◌, take}
 use Rattle.std.specs.List.{flat_map}
 use Rattle.silt_resp.specs.Texts.{item_text}
 use Rattle.silt_resp.proofs.texts.push_items.Given as goal

@@ -1,6 +1,4 @@
-use Rattle.std.proofs.Common.{◌≡◌, ◌<◌, ◌≤◌, ◌==◌, ℕ, List, Some, true, false, drop, get_or, length, take, sym, ap, subst, ◌∙◌}
-use Rattle.std.specs.List.{list_all}
-use Rattle.byteorder.specs.Endian.{big_number}
+use Rattle.silt_resp.proofs.Common.{◌≡◌, ◌<◌, ◌≤◌, ◌==◌, ℕ, List, Some, true, false, drop, get_or, length, take, sym, ap, subst, ◌∙◌, list_all, big_number}
 use Rattle.silt_resp.proofs.Strings.{string_of-behind, string_of-there}
 use Rattle.silt_resp.proofs.values.string_of.Goals as goal
 

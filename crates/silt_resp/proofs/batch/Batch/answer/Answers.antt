@@ -1,9 +1,7 @@
-use Rattle.std.proofs.Common.{◌≡◌, ◌++◌, ◌∙◌, List, Some, ap, map}
+use Rattle.silt_resp.proofs.Common.{◌≡◌, ◌++◌, ◌∙◌, List, Some, ap, AnswersQuery, PlainReply, IsBeginning-all, due_seen, part_texts}
+use Rattle.std.proofs.Common.{map}
 use Rattle.std.proofs.lemmas.Result.{on_err_weaker, on_ok_weaker}
-use Rattle.silt_event.specs.Queries.{AnswersQuery, replies as replied}
-use Rattle.silt_event.specs.Events.{PlainReply}
-use Rattle.silt_wire.proofs.Answering.{IsBeginning-all}
-use Rattle.silt_resp.specs.Batches.{due_seen, part_texts}
+use Rattle.silt_event.specs.Queries.{replies as replied}
 use Rattle.silt_resp.proofs.Doing.{all-batch, none-batch, on-err, some-batch}
 use Rattle.silt_resp.proofs.batch.Batch.answer.Goals as goal
 

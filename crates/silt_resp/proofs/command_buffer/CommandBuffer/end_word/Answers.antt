@@ -1,7 +1,4 @@
-use Rattle.std.proofs.Common.{◌-◌, subst, sym, refl}
-use Rattle.silt_resp.specs.declared.command_buffer.BufferPlace.TheVariants.{Line}
-use Rattle.silt_resp.specs.declared.command_buffer.CommandBuffer.{CommandBuffer}
-use Rattle.silt_resp.specs.Buffers.{IsPiece}
+use Rattle.silt_resp.proofs.Common.{◌-◌, subst, sym, refl, Line, CommandBuffer, IsPiece}
 use Rattle.silt_resp.proofs.Takes.{takes_last, takes_word, word_feed}
 use Rattle.silt_resp.proofs.command_buffer.CommandBuffer.end_word.Goals as goal
 

@@ -1,6 +1,4 @@
-use Rattle.std.proofs.Common.{◌≤◌, false, length, take, ◌-◌}
-use Rattle.silt_resp.specs.Buffers.{HoldsStream, TakesInput}
-use Rattle.silt_resp.specs.Stream.{Stream}
+use Rattle.silt_resp.proofs.Common.{◌≤◌, false, length, take, ◌-◌, HoldsStream, TakesInput, Stream}
 use Rattle.silt_resp.proofs.command_buffer.CommandBuffer.take.Given as goal
 
 -- the bytes so far end no command

@@ -1,8 +1,5 @@
-use Rattle.std.proofs.Common.{◌≡◌, ◌∷◌, [], ℕ, Bool, List, take, true, false, subst, sym, ◌∙◌}
-use Rattle.silt_resp.specs.declared.command_buffer.BufferPlace.TheVariants.{Broken, Line}
-use Rattle.silt_resp.specs.declared.fault.ProtocolFault.{ProtocolFault}
+use Rattle.silt_resp.proofs.Common.{◌≡◌, ◌∷◌, [], ℕ, Bool, List, take, true, false, subst, sym, ◌∙◌, Broken, Line, ProtocolFault, NoFeed, TakesInput}
 use Rattle.std.specs.Prelude.{MatchBool}
-use Rattle.silt_resp.specs.Buffers.{NoFeed, TakesInput}
 use Rattle.silt_resp.proofs.Runs.{NoFeed-before, NoFeed-none, upto_feed}
 use Rattle.silt_resp.proofs.Takes.{takes_behind, takes_more}
 use Rattle.silt_resp.proofs.command_buffer.CommandBuffer.take_line.Goals as goal

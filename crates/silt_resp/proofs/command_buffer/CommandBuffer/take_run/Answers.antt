@@ -1,7 +1,5 @@
-use Rattle.std.proofs.Common.{◌≡◌, ◌≤◌, ◌+◌, ◌-◌, ◌++◌, length, take, ap, sym, ◌∙◌, refl, arith}
-use Rattle.std.specs.Prelude.{if◌then◌else◌}
+use Rattle.silt_resp.proofs.Common.{◌≡◌, ◌≤◌, ◌+◌, ◌-◌, ◌++◌, length, take, ap, sym, ◌∙◌, refl, arith, if◌then◌else◌, CommandBuffer}
 use Rattle.silt_resp.specs.declared.command_buffer.BufferPlace.TheVariants.{Word}
-use Rattle.silt_resp.specs.declared.command_buffer.CommandBuffer.{CommandBuffer}
 use Rattle.silt_resp.proofs.Takes.{takes_run}
 use Rattle.silt_resp.proofs.command_buffer.CommandBuffer.take_run.Goals as goal
 

@@ -1,6 +1,5 @@
-use Rattle.std.proofs.Common.{◌≡◌, ◌≤◌, ◌-◌, None, length, take}
-use Rattle.silt_resp.specs.Batches.{GathersAsked, HoldsClient, HasLengths}
-use Rattle.silt_resp.specs.Sessions.{Client, client_after}
+use Rattle.silt_resp.proofs.Common.{◌≡◌, ◌≤◌, ◌-◌, None, length, take, GathersAsked, HoldsClient, Client, client_after}
+use Rattle.silt_resp.specs.Batches.{HasLengths}
 use Rattle.silt_resp.proofs.session.Talk.gather.Given as goal
 
 abbrev pub invariant-loop-count : goal.invariant-loop-count

@@ -1,9 +1,5 @@
-use Rattle.std.proofs.Common.{◌≡◌, ◌≤◌, ◌+◌, ◌++◌, ◌∷◌, [], ℕ, List, length, subst, sym, arith}
+use Rattle.silt_resp.proofs.Common.{◌≡◌, ◌≤◌, ◌+◌, ◌++◌, ◌∷◌, [], ℕ, List, length, subst, sym, arith, Whole, FitsValues, HoldsWith, most_bytes, word_of}
 use Rattle.silt_resp.specs.declared.words.Extent.{Extent}
-use Rattle.silt_resp.specs.declared.words.Span.TheVariants.{Whole}
-use Rattle.silt_resp.specs.declared.words.Extent.TheVariants.{FitsValues}
-use Rattle.silt_resp.specs.Buffers.{HoldsWith}
-use Rattle.silt_resp.specs.Stream.{most_bytes, word_of}
 use Rattle.silt_resp.proofs.Kept.{keeps_more}
 use Rattle.silt_resp.proofs.words.WordBuffer.keep.Goals as goal
 
@@ -13,8 +9,7 @@ returns-clause-keeps c = λ words h room.
     let bytes = old.bytes.items in
     let word = c.args.word.now in
     let fits : old.extent ≡ FitsValues = c.in-FitsValues.is in
-    let items = old.bytes.ok.0 in
-    let start : c.len-start.result ≡ length bytes = omega (arith, items, c.len-start.ensures) in
+    let start : c.len-start.result ≡ length bytes = omega (arith, old.bytes.ok.0, c.len-start.ensures) in
     let few : length bytes + length word ≤ most_bytes = omega (arith, start, c.if-start-word-gt-MOST_BYTES.false) in
     let P : Extent → Type 0 = λ e. HoldsWith e bytes old.spans.items words in
     let more = keeps_more bytes word old.spans.items words (subst P fits h) room c.if-word-gt-LONGEST_WORD.false few in

@@ -1,7 +1,5 @@
-use Rattle.std.proofs.Common.{◌≡◌, ◌++◌, List, length}
-use Rattle.silt_resp.specs.Buffers.{HoldsWords}
-use Rattle.silt_resp.specs.Stream.{Word, spaced_words}
-use Rattle.silt_wire.specs.Lines.{words_of}
+use Rattle.silt_resp.proofs.Common.{◌≡◌, ◌++◌, List, length, HoldsWords, spaced_words, words_of}
+use Rattle.silt_resp.specs.Stream.{Word}
 use Rattle.silt_resp.proofs.words.WordBuffer.push_spaced.Given as goal
 
 -- with the words of the rest these are the words that were there and those of the text
