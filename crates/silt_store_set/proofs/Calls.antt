@@ -1,10 +1,8 @@
 -- What the calls of a store do, from what the calls of its stores in memory do.
-use Rattle.silt_store_set.proofs.Common.{◌≡◌, ◌≤◌, ◌<◌, ℕ, ◌+◌, ◌%◌, ◌^◌, Bool, true, false, IsTrue, List, [], ◌++◌, length, refl, ap, sym, ◌∙◌, subst, arith}
-use Rattle.silt_store_set.proofs.Common.{Content, LeavesOnly, MakesAtMost, device_size, Ghosts, Command, Map, map_after, image_map, StandsFor, Advances, Breaks}
-use Rattle.silt_store_set.proofs.Common.{Remaps, SameDisk, Stands, base_map, full_image, waiting_commands, EngineState, meaning, Event, Put, Delete, Swap}
-use Rattle.silt_store_set.proofs.Common.{Flush, Get, Convert, Merge, Refusal, Failed, Reply, Refused, Step, Counts, accepted_command, is_failed, BasisState}
-use Rattle.silt_store_set.proofs.Common.{basis_kept, basis_of, IsCore, CoreState, map_of, Cause, Durable, Does, MadeFor, convert_work, is_convert, is_merge}
-use Rattle.silt_store_set.proofs.Common.{merge_work, most_syncs, most_writes}
+use Rattle.silt_store_set.proofs.Common.{◌≡◌, ◌≤◌, ◌<◌, ℕ, ◌+◌, ◌%◌, ◌^◌, Bool, true, false, IsTrue, List, [], ◌++◌, length, refl, ap, sym, ◌∙◌, subst, arith, Content, LeavesOnly, MakesAtMost}
+use Rattle.silt_store_set.proofs.Common.{device_size, Ghosts, Command, Map, map_after, image_map, StandsFor, Advances, Breaks, Remaps, SameDisk, Stands, base_map, full_image, waiting_commands}
+use Rattle.silt_store_set.proofs.Common.{EngineState, meaning, Event, Flush, Refusal, Failed, Reply, Refused, Step, Counts, accepted_command, is_failed, BasisState, basis_kept, basis_of, IsCore}
+use Rattle.silt_store_set.proofs.Common.{CoreState, map_of, Cause, Durable, Does, MadeFor, convert_work, is_convert, is_merge, merge_work, most_syncs, most_writes}
 use Rattle.std.proofs.Common.{length-append}
 use Rattle.silt_disk.proofs.Costs.{most_none}
 use Rattle.silt_engine.specs.Calls.{HoldsPrefix}
@@ -51,8 +49,7 @@ pub record Standing {D F : Type 0} (facts : Ghosts D F) (core : CoreState D) : T
 pub stands_seen : {D F : Type 0} (facts : Ghosts D F) (disk : D) (stores : EngineState) (count : ℕ) → Stands (facts.content disk) stores → Standing facts (seen facts disk stores count)
 stands_seen facts disk stores count stands = record {
   numbers = (meaning (facts.content disk) stores stands).numbers;
-  has_map = λ h. (meaning (facts.content disk) stores stands).full h
-      ∙ ap (λ m. map_after m (waiting_commands (facts.content disk) stores)) (sym ((meaning (facts.content disk) stores stands).shown h));
+  has_map = λ h. cc ((meaning (facts.content disk) stores stands).full h, (meaning (facts.content disk) stores stands).shown h);
   safe = record {
     each = λ h image left. subst (λ m. StandsFor stores.manifest.shape m image) (sym ((meaning (facts.content disk) stores stands).shown h))
         ((meaning (facts.content disk) stores stands).safe.each h image left);
@@ -146,22 +143,12 @@ core_went adds old new stores after count next failed basis holds working same g
 -- ---- calls that change nothing
 
 pub step_refused : {F : Type 0} (m : Map) (event : Event) (refusal : Refusal F) → Step m event (Refused refusal) m
-step_refused m (Put key value) refusal = refl
-step_refused m (Delete key) refusal = refl
-step_refused m (Swap key old new) refusal = refl
 step_refused m Flush refusal = refl
-step_refused m (Get key) refusal = refl
-step_refused m Convert refusal = refl
-step_refused m Merge refusal = refl
+step_refused m event refusal = refl
 
 pub none_refused : {F : Type 0} (event : Event) (refusal : Refusal F) → accepted_command event (Refused refusal) ≡ []
-none_refused (Put key value) refusal = refl
-none_refused (Delete key) refusal = refl
-none_refused (Swap key old new) refusal = refl
 none_refused Flush refusal = refl
-none_refused (Get key) refusal = refl
-none_refused Convert refusal = refl
-none_refused Merge refusal = refl
+none_refused event refusal = refl
 
 module _ {D F : Type 0} (facts : Ghosts D F) where
   -- a call that leaves the store as it was

@@ -1,9 +1,8 @@
 -- What a step of conversion does, from what the same step of the stores in memory does.
-use Rattle.silt_store_set.proofs.Common.{◌≡◌, ℕ, ◌+◌, ◌*◌, ◌%◌, ◌^◌, inl, inr, false, true, IsTrue, [], length, Option, Some, None, IfSome, refl, ap, sym, ◌∙◌}
-use Rattle.silt_store_set.proofs.Common.{subst, length-map, GaveAny, Makes, MakesAtMost, none_made, Ghosts, ConversionState, hash_rows, Advances, Breaks}
-use Rattle.silt_store_set.proofs.Common.{IsLastGeneration, Remaps, SameDisk, step_syncs, step_writes, convert_turn, is_work, progress_due, Stands, full_image}
-use Rattle.silt_store_set.proofs.Common.{EngineState, hash_region_of, region_of, Idle, Waiting, Moved, Finished, Convert, Spent, Progress, Refused, basis_of}
-use Rattle.silt_store_set.proofs.Common.{CoreState, ConvertGoesOn, Does, MadeFor, convert_due, convert_work, written_of}
+use Rattle.silt_store_set.proofs.Common.{◌≡◌, ℕ, ◌+◌, ◌%◌, ◌^◌, inl, inr, false, true, IsTrue, [], length, Option, Some, None, IfSome, refl, ap, sym, ◌∙◌, subst, length-map, GaveAny, Makes}
+use Rattle.silt_store_set.proofs.Common.{MakesAtMost, none_made, Ghosts, ConversionState, hash_rows, Advances, Breaks, IsLastGeneration, Remaps, SameDisk, step_syncs, step_writes, convert_turn}
+use Rattle.silt_store_set.proofs.Common.{is_work, Stands, full_image, EngineState, hash_region_of, region_of, Idle, Waiting, Moved, Finished, Convert, Spent, Progress, Refused, basis_of, CoreState}
+use Rattle.silt_store_set.proofs.Common.{ConvertGoesOn, Does, MadeFor, convert_due, convert_work, written_of}
 use Rattle.silt_engine.specs.Conversion.{AreConverted, Converts, Finishes, HasConvertedRows, IsNextStep, MovesOn, oldest_rows, written_by}
 use Rattle.silt_event.specs.declared.progress.Progress.{Progress as ProgressOf}
 use Rattle.silt_event.specs.declared.refusal.Refusal.TheVariants.{Device, NoMemory}
@@ -31,9 +30,7 @@ module _ {D F : Type 0} (facts : Ghosts D F) (disk : D) (stores : EngineState) (
   due_same =
       let frozen : length stores.manifest.current.frozen ≡ length stores.frozen = ap length (sym stands.whole.frozen_regions) ∙ length-map stores.frozen region_of in
       let hashed : length stores.manifest.current.hashed ≡ length stores.hashes = ap length (sym stands.whole.hash_regions) ∙ length-map stores.hashes hash_region_of in
-      ap (λ (n : ℕ). progress_due n (length stores.manifest.current.hashed) stores.manifest.shape.hashes (4 * stores.manifest.shape.buckets) (written_of (convert_work stores.converting))) frozen
-      ∙ ap (λ (n : ℕ). progress_due (length stores.frozen) n stores.manifest.shape.hashes (4 * stores.manifest.shape.buckets) (written_of (convert_work stores.converting))) hashed
-      ∙ ap (progress_due (length stores.frozen) (length stores.hashes) stores.manifest.shape.hashes (4 * stores.manifest.shape.buckets)) (written_same stores.converting)
+      cc (written_same stores.converting)
 
   -- what a step makes, as contracts see it
   made_step : (progress : ProgressOf) → Makes facts.writes facts.syncs (step_writes progress) (step_syncs progress) disk disk → MadeFor facts before before Convert (Progress progress)

@@ -1,6 +1,6 @@
 -- What the next step of merging reads, in the words of the manifest record.
-use Rattle.silt_store_set.proofs.Common.{◌≡◌, ◌≢◌, ℕ, ◌+◌, ◌-◌, ◌*◌, ◌<◌, ◌≤◌, nat_lt, if◌then◌else◌, Bool, true, false, List, drop, get_or, length, map}
-use Rattle.silt_store_set.proofs.Common.{Option, Some, None, IfSome, inl, inr, refl, ap, sym, ◌∙◌, subst, arith, cases_lt, length-map, Shape, Place, regions_of}
+use Rattle.silt_store_set.proofs.Common.{◌≡◌, ℕ, ◌+◌, ◌-◌, ◌*◌, ◌<◌, ◌≤◌, nat_lt, if◌then◌else◌, Bool, List, drop, get_or, length}
+use Rattle.silt_store_set.proofs.Common.{Option, Some, None, IfSome, inl, inr, ap, sym, ◌∙◌, subst, arith, cases_lt, length-map, Shape, Place, regions_of}
 use Rattle.silt_store_set.proofs.Common.{MergeState, oldest_stores, steps_of, place_read, IsMerging, EngineState, hash_region_of, merge_work, place_due}
 use Rattle.std.proofs.Common.{◌/◌}
 use Rattle.std.proofs.lemmas.Bool.{le-ltb, lt-ltb}
@@ -23,9 +23,7 @@ module _ (s : EngineState) (whole : AreWhole s) where
   regions_taken : (count : ℕ) → regions_of (oldest_stores count s.hashes) ≡ drop (length s.manifest.current.hashed - count) s.manifest.current.hashed
   regions_taken count =
       let named : length s.hashes ≡ length s.manifest.current.hashed = sym (length-map s.hashes hash_region_of) ∙ ap length whole.hash_regions in
-      sym (drop-map hash_region_of (length s.hashes - count) s.hashes)
-      ∙ ap (drop (length s.hashes - count)) whole.hash_regions
-      ∙ ap (λ (n : ℕ). drop (n - count) s.manifest.current.hashed) named
+      cc (drop-map hash_region_of (length s.hashes - count) s.hashes, whole.hash_regions)
 
   -- a merge gathers as long as it took fewer steps than there are slots, and the number of its store is that of the steps by the slots of a store
   module _ (merge : MergeState) (way : IsMerging s merge) where
@@ -43,10 +41,7 @@ module _ (s : EngineState) (whole : AreWhole s) where
         ap (λ (n : ℕ). merge.store * n + merge.slot + merge.decided) slots_same ∙ omega (arith, way.held.gathers below) in
         let fewer : steps_of merge < merge.stores * slots = subst (λ (n : ℕ). n < merge.stores * slots) (sym steps) (slot_below merge.store merge.stores merge.slot slots below inside) in
         let number : steps_of merge / slots ≡ merge.store = ap (λ (n : ℕ). n / slots) steps ∙ div-mul-add merge.store slots merge.slot inside in
-        ap (λ (b : Bool). place_of b (regions_of (oldest_stores merge.stores s.hashes)) merge.store)
-        (lt-ltb merge.store merge.stores below ∙ sym (lt-ltb (steps_of merge) (merge.stores * slots) fewer))
-        ∙ ap (λ (l : List ℕ). place_of (nat_lt (steps_of merge) (merge.stores * slots)) l merge.store) (regions_taken merge.stores)
-        ∙ ap (λ (n : ℕ). place_of (nat_lt (steps_of merge) (merge.stores * slots)) (drop (length s.manifest.current.hashed - merge.stores) s.manifest.current.hashed) n) (sym number)
+        cc (lt-ltb merge.store merge.stores below, lt-ltb (steps_of merge) (merge.stores * slots) fewer, regions_taken merge.stores)
 
     place_decides : merge.stores ≤ merge.store → place_of (nat_lt merge.store merge.stores) (regions_of (oldest_stores merge.stores s.hashes)) merge.store
         ≡ place_of (nat_lt (steps_of merge) (merge.stores * slots)) (drop (length s.manifest.current.hashed - merge.stores) s.manifest.current.hashed) (steps_of merge / slots)
@@ -54,9 +49,7 @@ module _ (s : EngineState) (whole : AreWhole s) where
         let all : merge.store ≡ merge.stores = omega (arith, past, way.held.store) in
         let gathered : merge.store * (4 * merge.shape.buckets) ≡ merge.stores * slots = ap (λ (n : ℕ). n * (4 * merge.shape.buckets)) all ∙ ap (λ (n : ℕ). merge.stores * n) slots_same in
         let more : merge.stores * slots ≤ steps_of merge = omega (arith, gathered) in
-        ap (λ (b : Bool). place_of b (regions_of (oldest_stores merge.stores s.hashes)) merge.store) (le-ltb merge.store merge.stores past)
-        ∙ sym (ap (λ (b : Bool). place_of b (drop (length s.manifest.current.hashed - merge.stores) s.manifest.current.hashed) (steps_of merge / slots))
-        (le-ltb (steps_of merge) (merge.stores * slots) more))
+        cc (le-ltb merge.store merge.stores past, le-ltb (steps_of merge) (merge.stores * slots) more)
 
   -- what a step reads in memory is what is due by the manifest record
   pub place_seen : (o : Option MergeState) → IfSome o (IsMerging s) → place_read s.hashes o ≡ place_due s.manifest.shape s.manifest.current (merge_work o)

@@ -1,6 +1,5 @@
 -- A store that failed after an acknowledged flush.
-use Rattle.silt_store_set.proofs.Common.{◌≡◌, ℕ, Bool, true, false, IsTrue, List, [], ◌∷◌, ◌++◌, refl, ap, sym, ◌∙◌, Ghosts, Command, map_after, Flush}
-use Rattle.silt_store_set.proofs.Common.{Acknowledged, CoreState, Does}
+use Rattle.silt_store_set.proofs.Common.{◌≡◌, ℕ, Bool, true, false, IsTrue, List, [], ◌∷◌, ◌++◌, refl, ap, sym, ◌∙◌, Ghosts, Command, map_after, Flush, Acknowledged, CoreState, Does}
 use Rattle.silt_store_set.specs.FailedLaw.{FailedLaw}
 
 -- a beginning of nothing is nothing

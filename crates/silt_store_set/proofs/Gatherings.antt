@@ -1,10 +1,8 @@
 -- If a merge is out of memory, the slot that it gathers next has the first row of a key, or the key that it decides next has a value.
-use Rattle.silt_store_set.proofs.Common.{◌≡◌, ℕ, zero, suc, ◌+◌, ◌-◌, ◌*◌, ◌<◌, ◌≤◌, true, IsTrue, cond, List, [], ◌∷◌, ◌++◌, drop, length, map, take, get_or}
-use Rattle.silt_store_set.proofs.Common.{Option, Some, None, IsSomeAnd, refl, sym, subst, ap, ◌∙◌, arith, append_assoc, length-map, Content, Shape, StoredRow}
-use Rattle.silt_store_set.proofs.Common.{hash_rows, all_rows, Body, regions_of, MergeState, oldest_stores, steps_of, GathersRow, TakesKey, full_stores}
-use Rattle.silt_store_set.proofs.Common.{merge_sources, HasGathered, Stands, IsMerging, EngineState, sources_full, taken_sound}
-use Rattle.std.proofs.Common.{filter, flat_map}
-use Rattle.std.proofs.Common.{slice_get, option_map, suc-mul}
+use Rattle.silt_store_set.proofs.Common.{◌≡◌, ℕ, zero, suc, ◌+◌, ◌-◌, ◌*◌, ◌<◌, ◌≤◌, true, IsTrue, List, [], ◌∷◌, ◌++◌, drop, length, map, take, get_or, Option, Some, None, IsSomeAnd, refl, sym}
+use Rattle.silt_store_set.proofs.Common.{subst, ap, ◌∙◌, arith, append_assoc, length-map, Content, Shape, StoredRow, hash_rows, all_rows, Body, regions_of, MergeState, oldest_stores, steps_of}
+use Rattle.silt_store_set.proofs.Common.{GathersRow, TakesKey, full_stores, merge_sources, HasGathered, Stands, IsMerging, EngineState, sources_full, taken_sound}
+use Rattle.std.proofs.Common.{filter, flat_map, slice_get, suc-mul}
 use Rattle.std.specs.Option.{option_or}
 use Rattle.std.proofs.lemmas.List.{length-append, take-append-drop}
 use Rattle.std.proofs.lemmas.List.Elements.{filter-append}
@@ -16,10 +14,10 @@ use Rattle.silt_hash_store.specs.Slots.{hash_part, rows_before, slot_row}
 use Rattle.silt_hash_store.specs.State.{HashState}
 use Rattle.silt_hash_store.proofs.Slotting.{all_before, before_count, before_more, before_taken}
 use Rattle.silt_image.specs.Meaning.{with_log_rows}
-use Rattle.silt_image.specs.Stores.{Stores, stores_named}
+use Rattle.silt_image.specs.Stores.{stores_named}
 use Rattle.silt_log.specs.Parts.{known_rows, part_rows}
-use Rattle.silt_merge.specs.Merging.{IsMergedIn, decided_rows, gathered_rows, source_row}
-use Rattle.silt_merge.specs.Rows.{has_row_with, newest_rows, rows_of_hashes}
+use Rattle.silt_merge.specs.Merging.{IsMergedIn, gathered_rows}
+use Rattle.silt_merge.specs.Rows.{newest_rows, rows_of_hashes}
 use Rattle.silt_merge.specs.State.{source_at}
 use Rattle.silt_merge.proofs.Newest.{newest_append}
 use Rattle.silt_engine.proofs.MergeDone.{full_is, sorted_shape}
@@ -144,9 +142,7 @@ module _ (s : Shape) (image : List ℕ) where
         next = ap (λ (l : List StoredRow). slice_get l steps) all.1 ∙ next_there before row all.0 steps long;
         known = known;
         new_key =
-            ap (λ (l : List StoredRow). newest_row (filter has_known_kind (take steps l)) row.key) all.1
-            ∙ ap (λ (l : List StoredRow). newest_row (filter has_known_kind l) row.key) (first_there before (row ∷ all.0) steps long)
-            ∙ none_before row.key regions store slot none;
+            cc (all.1, first_there before (row ∷ all.0) steps long, none_before row.key regions store slot none);
       }
 
 -- ---- a merge in progress
@@ -163,8 +159,7 @@ module _ (content : Content) (s : EngineState) (stands : Stands content s) (hone
       s.manifest.shape content.shown (regions_of (oldest_stores count s.hashes))
   slots_taken count =
       let same : (full_stores content s).hashes ≡ map (hash_part s.manifest.shape content.shown) s.manifest.current.hashed =
-      ap (λ (t : Stores). t.hashes) (full_is content s stands honest)
-      ∙ hashes_with s.manifest.current.active (all_rows content s.active.log) s.manifest.shape s.manifest.current content.shown in
+      cc (full_is content s stands honest, hashes_with s.manifest.current.active (all_rows content s.active.log) s.manifest.shape s.manifest.current content.shown) in
       ap (λ l. flat_map part_rows (drop (length l - count) l)) same
       ∙ ap (flat_map part_rows) (taken_named s.manifest.shape content.shown s.manifest.current.hashed s.hashes count stands.whole.hash_regions)
       ∙ parts_slots s.manifest.shape content.shown (regions_of (oldest_stores count s.hashes))
@@ -198,10 +193,7 @@ module _ (content : Content) (s : EngineState) (stands : Stands content s) (hone
     none_gathered : (key : List ℕ) → source_at merge.waiting key ≡ None → newest_row (gathered_rows s.manifest.shape content.shown regions merge.store merge.slot) key ≡ None
     none_gathered key none =
         let rows : Shape → List StoredRow = λ sh. gathered_rows sh content.shown regions merge.store merge.slot in
-        ap (λ (sh : Shape). newest_row (rows sh) key) (sym (sorted_shape content s stands))
-        ∙ sym (ap (λ n. cond (has_row_with key (decided_rows content.shown stores s.sorted n)) None (newest_row (rows s.sorted.shape) key)) (way.held.gathers takes.gathers))
-        ∙ sym (was.gathered.waits key)
-        ∙ ap (option_map (source_row s.sorted.shape content.shown regions)) none
+        cc (sorted_shape content s stands, way.held.gathers takes.gathers, was.gathered.waits key)
 
     pub new_key_next : HasNewKey (flat_map part_rows (drop (length (full_stores content s).hashes - merge.stores) (full_stores content s).hashes)) (steps_of merge)
     new_key_next =

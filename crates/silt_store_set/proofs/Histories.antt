@@ -1,8 +1,7 @@
 -- Lives, from their openings, runs and crashes.
-use Rattle.silt_store_set.proofs.Common.{◌≡◌, ℕ, ◌+◌, inl, inr, false, IsTrue, List, [], ◌∷◌, ◌++◌, length, Vec, refl, ap, sym, ◌∙◌, subst, arith, Global}
-use Rattle.silt_store_set.proofs.Common.{Content, Left, LeavesOnly, Restarts, Shape, Event, LifeReply, NotOpened, Opened, Refusal, Reply, Command, Map}
-use Rattle.silt_store_set.proofs.Common.{map_after, Legal, accepted_commands, LivesHistory, CoreState, map_of, Runs, Opens, IsSafe, Ghosts, StandsFor, SameDisk}
-use Rattle.silt_store_set.proofs.Common.{LeavesNoOther, OpeningCause}
+use Rattle.silt_store_set.proofs.Common.{◌≡◌, ℕ, ◌+◌, inl, inr, false, IsTrue, List, [], ◌∷◌, ◌++◌, length, Vec, refl, ap, sym, ◌∙◌, subst, arith, Global, Content, Left, LeavesOnly, Restarts, Shape}
+use Rattle.silt_store_set.proofs.Common.{Event, LifeReply, NotOpened, Opened, Refusal, Reply, Command, Map, map_after, Legal, accepted_commands, LivesHistory, CoreState, map_of, Runs, Opens, IsSafe}
+use Rattle.silt_store_set.proofs.Common.{Ghosts, StandsFor, SameDisk, LeavesNoOther, OpeningCause}
 use Rattle.silt_disk.proofs.Images.{shown_left, left_at_rest}
 use Rattle.silt_event.specs.declared.refusal.Refusal.TheVariants.{NoMemory}
 use Rattle.silt_event.specs.Events.{LifeHistory}
@@ -97,5 +96,4 @@ pub lives_more : {F : Type 0} (m : Map) (lives : List (Vec Event Global)) (repli
     → LivesHistory m lives replies to → LifeHistory to life.items reply next → LivesHistory m (lives ++ life ∷ []) (replies ++ reply ∷ []) next
 lives_more m [] [] to next life reply before one = (next, subst (λ (n : Map). LifeHistory n life.items reply next) before one, refl)
 lives_more m (l ∷ lives) (r ∷ replies) to next life reply before one = (before.0, before.1, lives_more before.0 lives replies to next life reply before.2 one)
-lives_more m [] (r ∷ replies) to next life reply before one = absurd before
-lives_more m (l ∷ lives) [] to next life reply before one = absurd before
+lives_more m lives replies to next life reply before one = absurd before

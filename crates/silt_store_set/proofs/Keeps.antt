@@ -1,10 +1,8 @@
 -- What a crash keeps of a run.
-use Rattle.silt_store_set.proofs.Common.{◌≡◌, ◌≤◌, ℕ, ◌+◌, ◌||◌, Bool, true, false, IsTrue, List, [], ◌∷◌, ◌++◌, length, Some, None, refl, ap, sym, ◌∙◌, subst}
-use Rattle.silt_store_set.proofs.Common.{arith, append_assoc, Left, LeavesOnly, Shape, Ghosts, StandsFor, Event, Put, Delete, Swap, Flush, Get, Convert, Merge}
-use Rattle.silt_store_set.proofs.Common.{Failed, Reply, Accepted, Acknowledged, Found, Absent, Differs, Progress, Refused, Command, Map, map_after, Counts}
-use Rattle.silt_store_set.proofs.Common.{accepted_command, accepted_commands, is_failed, CoreState, Cause, Does, Runs, Durable}
+use Rattle.silt_store_set.proofs.Common.{◌≡◌, ◌≤◌, ℕ, ◌+◌, ◌||◌, Bool, true, false, IsTrue, List, [], ◌∷◌, ◌++◌, length, Some, None, refl, ap, sym, ◌∙◌, subst, arith, append_assoc, Left, LeavesOnly}
+use Rattle.silt_store_set.proofs.Common.{Shape, Ghosts, StandsFor, Event, Put, Delete, Swap, Flush, Get, Convert, Merge, Failed, Reply, Accepted, Acknowledged, Found, Absent, Differs, Progress}
+use Rattle.silt_store_set.proofs.Common.{Refused, Command, Map, map_after, Counts, accepted_command, accepted_commands, is_failed, CoreState, Cause, Does, Runs, Durable}
 use Rattle.std.proofs.Common.{length-append}
-use Rattle.silt_event.specs.declared.reply.Reply.TheVariants.{Unsettled, NotServed}
 use Rattle.silt_event.specs.Events.{acknowledged_by, acknowledged_after, is_fault, FailsAfterFault}
 use Rattle.silt_store_set.specs.CoreState.{StandsKept}
 use Rattle.silt_store_set.proofs.Maps.{map_after-append, append_nil}
@@ -22,69 +20,22 @@ pub own_counts : {D F : Type 0} (facts : Ghosts D F) (old new : CoreState D) (ev
 own_counts facts old new (Put key value) (Accepted n) c d cause counts = counts.1
 own_counts facts old new (Delete key) (Accepted n) c d cause counts = counts.1
 own_counts facts old new (Swap key expected value) (Accepted n) c d cause counts = counts.1
-own_counts facts old new Flush (Accepted n) c d cause counts = absurd cause
-own_counts facts old new (Get key) (Accepted n) c d cause counts = absurd cause
-own_counts facts old new Convert (Accepted n) c d cause counts = absurd cause
-own_counts facts old new Merge (Accepted n) c d cause counts = absurd cause
-own_counts facts old new (Put key value) (Acknowledged n) c d cause counts = absurd cause
-own_counts facts old new (Delete key) (Acknowledged n) c d cause counts = absurd cause
-own_counts facts old new Flush (Acknowledged n) c d cause counts = omega (arith, counts.1)
-own_counts facts old new (Get key) (Acknowledged n) c d cause counts = absurd cause
-own_counts facts old new Convert (Acknowledged n) c d cause counts = absurd cause
-own_counts facts old new Merge (Acknowledged n) c d cause counts = absurd cause
-own_counts facts old new (Put key value) (Found v) c d cause counts = absurd cause
-own_counts facts old new (Delete key) (Found v) c d cause counts = absurd cause
-own_counts facts old new Flush (Found v) c d cause counts = absurd cause
-own_counts facts old new (Get key) (Found v) c d cause counts = omega (arith, counts)
-own_counts facts old new Convert (Found v) c d cause counts = absurd cause
-own_counts facts old new Merge (Found v) c d cause counts = absurd cause
-own_counts facts old new (Put key value) Absent c d cause counts = absurd cause
-own_counts facts old new (Delete key) Absent c d cause counts = absurd cause
-own_counts facts old new Flush Absent c d cause counts = absurd cause
-own_counts facts old new (Get key) Absent c d cause counts = omega (arith, counts)
-own_counts facts old new Convert Absent c d cause counts = absurd cause
-own_counts facts old new Merge Absent c d cause counts = absurd cause
-own_counts facts old new (Put key value) Differs c d cause counts = absurd cause
-own_counts facts old new (Delete key) Differs c d cause counts = absurd cause
 own_counts facts old new (Swap key expected value) Differs c d cause counts = omega (arith, counts)
-own_counts facts old new Flush Differs c d cause counts = absurd cause
-own_counts facts old new (Get key) Differs c d cause counts = absurd cause
-own_counts facts old new Convert Differs c d cause counts = absurd cause
-own_counts facts old new Merge Differs c d cause counts = absurd cause
-own_counts facts old new (Put key value) (Progress p) c d cause counts = absurd cause
-own_counts facts old new (Delete key) (Progress p) c d cause counts = absurd cause
-own_counts facts old new Flush (Progress p) c d cause counts = absurd cause
-own_counts facts old new (Get key) (Progress p) c d cause counts = absurd cause
+own_counts facts old new Flush (Acknowledged n) c d cause counts = omega (arith, counts.1)
+own_counts facts old new (Get key) (Found v) c d cause counts = omega (arith, counts)
+own_counts facts old new (Get key) Absent c d cause counts = omega (arith, counts)
 own_counts facts old new Convert (Progress p) c d cause counts = omega (arith, counts)
 own_counts facts old new Merge (Progress p) c d cause counts = omega (arith, counts)
 own_counts facts old new event (Refused refusal) c d cause counts = omega (arith, counts, ap length (none_refused event refusal))
-own_counts facts old new (Put key value) (Unsettled n) c d cause counts = absurd cause
-own_counts facts old new (Put key value) NotServed c d cause counts = absurd cause
-own_counts facts old new (Delete key) (Unsettled n) c d cause counts = absurd cause
-own_counts facts old new (Delete key) NotServed c d cause counts = absurd cause
 own_counts facts old new (Swap key expected (Some value)) reply c d cause counts = absurd cause.1
 own_counts facts old new (Swap key expected None) reply c d cause counts = absurd cause.1
-own_counts facts old new Flush (Unsettled n) c d cause counts = absurd cause
-own_counts facts old new Flush NotServed c d cause counts = absurd cause
-own_counts facts old new (Get key) (Unsettled n) c d cause counts = absurd cause
-own_counts facts old new (Get key) NotServed c d cause counts = absurd cause
-own_counts facts old new Convert (Unsettled n) c d cause counts = absurd cause
-own_counts facts old new Convert NotServed c d cause counts = absurd cause
-own_counts facts old new Merge (Unsettled n) c d cause counts = absurd cause
-own_counts facts old new Merge NotServed c d cause counts = absurd cause
+own_counts facts old new event reply c d cause counts = absurd cause
 
 -- more that was acknowledged before is more after
 acknowledged_more : {F : Type 0} (a b : ℕ) (replies : List (Reply F)) → a ≤ b → acknowledged_after a replies ≤ acknowledged_after b replies
 acknowledged_more a b [] less = less
-acknowledged_more a b (Accepted n ∷ replies) less = acknowledged_more a b replies less
 acknowledged_more a b (Acknowledged n ∷ replies) less = acknowledged_more n n replies (omega arith)
-acknowledged_more a b (Found v ∷ replies) less = acknowledged_more a b replies less
-acknowledged_more a b (Absent ∷ replies) less = acknowledged_more a b replies less
-acknowledged_more a b (Differs ∷ replies) less = acknowledged_more a b replies less
-acknowledged_more a b (Progress p ∷ replies) less = acknowledged_more a b replies less
-acknowledged_more a b (Refused r ∷ replies) less = acknowledged_more a b replies less
-acknowledged_more a b (Unsettled n ∷ replies) less = acknowledged_more a b replies less
-acknowledged_more a b (NotServed ∷ replies) less = acknowledged_more a b replies less
+acknowledged_more a b (reply ∷ replies) less = acknowledged_more a b replies less
 
 -- ---- runs of a failed store
 
@@ -103,13 +54,11 @@ ended {D} {F} facts old new (event ∷ events) (reply ∷ replies) failed runs =
     let rest : Ended old new events replies = ended facts old new events replies failed (subst (λ (c : CoreState D). Runs facts c events replies new) is.0 runs.2) in
     record {
       same = rest.same;
-      none = ap (λ (r : Reply F). accepted_command event r ++ accepted_commands events replies) is.1
-          ∙ ap (λ (cs : List Command). cs ++ accepted_commands events replies) (none_refused {F = F} event Failed) ∙ rest.none;
+      none = cc (is.1, none_refused {F = F} event Failed, rest.none);
       acknowledged = λ n. ap (λ (r : Reply F). acknowledged_after (acknowledged_by n r) replies) is.1 ∙ rest.acknowledged n;
       nines = (λ _. refl, rest.nines);
     }
-ended facts old new [] (reply ∷ replies) failed runs = absurd runs
-ended facts old new (event ∷ events) [] failed runs = absurd runs
+ended facts old new events replies failed runs = absurd runs
 
 -- ---- runs of a store that is not failed
 
@@ -127,33 +76,18 @@ nines facts old new (event ∷ events) (reply ∷ replies) before working runs =
           subst (λ (b : Bool). FailsAfterFault b replies) (sym fault) (ended facts next new events replies e runs.2).nines
     ] in
     (told, go next.failed refl)
-nines facts old new [] (reply ∷ replies) before working runs = absurd runs
-nines facts old new (event ∷ events) [] before working runs = absurd runs
+nines facts old new events replies before working runs = absurd runs
 
 -- what was acknowledged by one reply is settled after it
 acknowledged_one : {D F : Type 0} (old next : CoreState D) (reply : Reply F) (settled moved : ℕ) → Counts old.count reply next.count
     → Durable next reply → settled + moved + length next.waiting ≡ next.count → acknowledged_by settled reply ≤ settled + moved
-acknowledged_one old next (Accepted n) settled moved counts none sum = omega arith
 acknowledged_one old next (Acknowledged n) settled moved counts none sum = omega (arith, counts.0, counts.1, ap length none)
-acknowledged_one old next (Found v) settled moved counts none sum = omega arith
-acknowledged_one old next Absent settled moved counts none sum = omega arith
-acknowledged_one old next Differs settled moved counts none sum = omega arith
-acknowledged_one old next (Progress p) settled moved counts none sum = omega arith
-acknowledged_one old next (Refused r) settled moved counts none sum = omega arith
-acknowledged_one old next (Unsettled n) settled moved counts none sum = omega arith
-acknowledged_one old next NotServed settled moved counts none sum = omega arith
+acknowledged_one old next reply settled moved counts none sum = omega arith
 
 -- a fault acknowledges nothing and adds nothing
 pub fault_adds : {F : Type 0} (event : Event) (reply : Reply F) → IsTrue (is_fault reply) → (accepted_command event reply ≡ []) × ((n : ℕ) → acknowledged_by n reply ≡ n)
-fault_adds event (Accepted n) fault = absurd (cc)
-fault_adds event (Acknowledged n) fault = absurd (cc)
-fault_adds event (Found v) fault = absurd (cc)
-fault_adds event Absent fault = absurd (cc)
-fault_adds event Differs fault = absurd (cc)
-fault_adds event (Progress p) fault = absurd (cc)
-fault_adds event (Unsettled n) fault = absurd (cc)
-fault_adds event NotServed fault = absurd (cc)
 fault_adds event (Refused r) fault = (none_refused event r, λ n. refl)
+fault_adds event reply fault = absurd (cc)
 
 module _ {D F : Type 0} (facts : Ghosts D F) where
   -- the first call did not fail
@@ -170,8 +104,7 @@ module _ {D F : Type 0} (facts : Ghosts D F) where
         record {
           begins = record {
             rest = kept.1.begins.rest;
-            is = append_assoc moves.moved kept.0 kept.1.begins.rest ∙ ap (λ (cs : List Command). moves.moved ++ cs) kept.1.begins.is ∙ sym (append_assoc moves.moved next.waiting more)
-                ∙ ap (λ (cs : List Command). cs ++ more) moves.rest ∙ append_assoc old.waiting own more;
+            is = cc (append_assoc moves.moved kept.0 kept.1.begins.rest, kept.1.begins.is, append_assoc moves.moved next.waiting more, moves.rest, append_assoc old.waiting own more);
           };
           acknowledged = λ settled sum.
               let now : settled + length moves.moved + length next.waiting ≡ next.count = omega (arith, waits, counts, sum) in
@@ -220,5 +153,4 @@ module _ {D F : Type 0} (facts : Ghosts D F) where
         | true ↦ λ fails. keeps_out old next new event reply events replies image working fails there runs.1 runs.2 left
       ] in
       go next.failed refl
-  keeps_runs old new [] (reply ∷ replies) working safe runs h image left = absurd runs
-  keeps_runs old new (event ∷ events) [] working safe runs h image left = absurd runs
+  keeps_runs old new events replies working safe runs h image left = absurd runs

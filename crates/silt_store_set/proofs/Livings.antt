@@ -53,11 +53,9 @@ module _ {D F : Type 0} (facts : Ghosts D F) (value_len : ℕ) where
       → LivesTo lives replies disk to → LifeEnds facts value_len life.items reply to next → LivesTo (lives ++ life ∷ []) (replies ++ reply ∷ []) disk next
   lives_on [] [] disk to next life reply before one = (next, subst (λ (d : D). LifeEnds facts value_len life.items reply d next) before one, refl)
   lives_on (l ∷ lives) (r ∷ replies) disk to next life reply before one = (before.0, before.1, lives_on lives replies before.0 to next life reply before.2 one)
-  lives_on [] (r ∷ replies) disk to next life reply before one = absurd before
-  lives_on (l ∷ lives) [] disk to next life reply before one = absurd before
+  lives_on lives replies disk to next life reply before one = absurd before
 
   pub lives_ran : (lives : List (Vec Event Global)) (replies : List (LifeReply F)) (disk to : D) → LivesTo lives replies disk to → LivesRun facts value_len lives replies disk
   lives_ran [] [] disk to run = tt
   lives_ran (l ∷ lives) (r ∷ replies) disk to run = (run.0, run.1, lives_ran lives replies run.0 to run.2)
-  lives_ran [] (r ∷ replies) disk to run = absurd run
-  lives_ran (l ∷ lives) [] disk to run = absurd run
+  lives_ran lives replies disk to run = absurd run

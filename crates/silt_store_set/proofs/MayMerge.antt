@@ -1,10 +1,7 @@
 -- Whether a step of merging may be done, by what is in memory.
-use Rattle.silt_store_set.proofs.Common.{◌≡◌, ℕ, Bool, true, false, ◌||◌, Option, Some, None, length, refl, ap, sym, ◌∙◌, is_some, length-map, Ghosts}
-use Rattle.silt_store_set.proofs.Common.{convert_turn, MergeState, Stands, EngineState, hash_region_of, CoreState, convert_due, awaits_region, merge_work}
-use Rattle.silt_store_set.proofs.Common.{BasisState}
-use Rattle.std.proofs.Common.{◌&&◌}
+use Rattle.silt_store_set.proofs.Common.{◌≡◌, ℕ, Bool, true, false, ◌||◌, Option, Some, None, length, refl, ap, sym, ◌∙◌, is_some, length-map, Ghosts, convert_turn, MergeState, Stands, EngineState}
+use Rattle.silt_store_set.proofs.Common.{hash_region_of, CoreState, awaits_region, merge_work, BasisState}
 use Rattle.std.specs.Prelude.{nat_le}
-use Rattle.silt_event.specs.declared.progress.Progress.{Progress as ProgressOf}
 use Rattle.silt_store_set.specs.CoreState.{may_merge, wants_merge}
 use Rattle.silt_store_set.proofs.Calls.{seen, seen_core}
 use Rattle.silt_store_set.proofs.Converts.{due_same}
@@ -24,10 +21,7 @@ module _ {D F : Type 0} (facts : Ghosts D F) (disk : D) (stores : EngineState) (
       → may_merge before least ≡ (is_some stores.merging || (nat_le least (length stores.hashes) || awaits_region (convert_turn stores)))
   may_merge_is least wants =
       let named : length stores.manifest.current.hashed ≡ length stores.hashes = ap length (sym stands.whole.hash_regions) ∙ length-map stores.hashes hash_region_of in
-      ap (λ (b : Bool). b && (is_some before.merging || (nat_le least (length before.body.hashed) || awaits_region (convert_due before)))) wants
-      ∙ ap (λ (b : Bool). b || (nat_le least (length before.body.hashed) || awaits_region (convert_due before))) (merging_same stores.merging)
-      ∙ ap (λ (n : ℕ). is_some stores.merging || (nat_le least n || awaits_region (convert_due before))) named
-      ∙ ap (λ (p : ProgressOf). is_some stores.merging || (nat_le least (length stores.hashes) || awaits_region p)) (due_same facts disk stores count stands)
+      cc (merging_same stores.merging, due_same facts disk stores count stands)
 
 module _ {D F : Type 0} (facts : Ghosts D F) (disk : D) (stores : EngineState) (count : ℕ) where
   -- the same of a store that may be failed: then there is no work
@@ -43,8 +37,4 @@ module _ {D F : Type 0} (facts : Ghosts D F) (disk : D) (stores : EngineState) (
       → wants_merge (seen_core facts disk stores count failed basis) ≡ true → merging ≡ is_some stores.merging → merging ≡ false → hashes ≡ length stores.hashes → nat_le least hashes ≡ enough
       → waits ≡ awaits_region (convert_turn stores) → (enough || waits) ≡ may_merge (seen_core facts disk stores count failed basis) least
   begins_if failed basis least hashes merging enough waits stands wants is none are big waiting =
-      sym (may_merge_by failed basis least stands wants
-      ∙ ap (λ (b : Bool). b || (nat_le least (length stores.hashes) || awaits_region (convert_turn stores))) (sym is ∙ none)
-      ∙ ap (λ (n : ℕ). nat_le least n || awaits_region (convert_turn stores)) (sym are)
-      ∙ ap (λ (b : Bool). b || awaits_region (convert_turn stores)) big
-      ∙ ap (λ (b : Bool). enough || b) (sym waiting))
+      sym (cc (may_merge_by failed basis least stands wants))

@@ -1,10 +1,9 @@
 -- What a step of merging does, from what the same step of the stores in memory does.
-use Rattle.silt_store_set.proofs.Common.{◌≡◌, ◌<◌, ℕ, ◌+◌, ◌-◌, ◌*◌, ◌%◌, ◌^◌, ◌==◌, inl, inr, Bool, false, true, IsTrue, IsSomeAnd, [], length, Option, Some}
-use Rattle.silt_store_set.proofs.Common.{None, IfSome, refl, ap, sym, ◌∙◌, subst, arith, eqb-true, length-map, GaveAny, MakesAtMost, none_made, Shape, Ghosts}
-use Rattle.silt_store_set.proofs.Common.{Merge, Idle, Waiting, Moved, Finished, Place, Spent, Progress, Refused, key_count, MergeState, oldest_stores, steps_of}
-use Rattle.silt_store_set.proofs.Common.{GathersRow, TakesKey, Advances, Breaks, IsLastGeneration, Remaps, SameDisk, is_work, step_syncs, step_writes}
-use Rattle.silt_store_set.proofs.Common.{damaged_in, full_stores, merge_sources, place_read, HasGathered, Stands, IsMerging, EngineState, hash_region_of}
-use Rattle.silt_store_set.proofs.Common.{meaning, basis_of, CoreState, Does, MadeFor, entries_written, merge_work, place_due}
+use Rattle.silt_store_set.proofs.Common.{◌≡◌, ◌<◌, ℕ, ◌+◌, ◌-◌, ◌*◌, ◌%◌, ◌^◌, ◌==◌, inl, inr, Bool, false, true, IsTrue, IsSomeAnd, [], length, Option, Some, None, IfSome, refl, ap, sym, ◌∙◌}
+use Rattle.silt_store_set.proofs.Common.{subst, arith, eqb-true, length-map, GaveAny, MakesAtMost, none_made, Shape, Ghosts, Merge, Idle, Waiting, Moved, Finished, Place, Spent, Progress, Refused}
+use Rattle.silt_store_set.proofs.Common.{key_count, MergeState, oldest_stores, steps_of, GathersRow, TakesKey, Advances, Breaks, IsLastGeneration, Remaps, SameDisk, is_work, step_syncs, step_writes}
+use Rattle.silt_store_set.proofs.Common.{damaged_in, full_stores, merge_sources, place_read, HasGathered, Stands, IsMerging, EngineState, hash_region_of, meaning, basis_of, CoreState, Does, MadeFor}
+use Rattle.silt_store_set.proofs.Common.{entries_written, merge_work, place_due}
 use Rattle.std.proofs.Common.{◌⊎◌}
 use Rattle.std.specs.Option.{option_map}
 use Rattle.std.proofs.lemmas.Bool.{cases_Bool, eq-eqb}
@@ -15,10 +14,8 @@ use Rattle.silt_merge.specs.Rows.{merged_rows}
 use Rattle.silt_merge.specs.State.{is_done}
 use Rattle.silt_merge.specs.Steps.{TakesMemory}
 use Rattle.silt_engine.specs.Costs as engine
-use Rattle.silt_engine.specs.Merge.{EndsMerged, HasMergedEntries, IsDoneBySteps, IsNextMerge, MayLackMemory, Merges, MergesOn}
-use Rattle.silt_engine.specs.Merge.{merge_progress, merge_turn, merged_body}
-use Rattle.silt_store_set.specs.CoreState.{DecidesValue, GathersNewKey, GathersNext, IsMergeDue, MergeGoesOn, MergeLacksMemory}
-use Rattle.silt_store_set.specs.CoreState.{MayFind, found_damaged, has_decided, merge_due}
+use Rattle.silt_engine.specs.Merge.{EndsMerged, HasMergedEntries, IsDoneBySteps, IsNextMerge, MayLackMemory, Merges, MergesOn, merge_progress, merge_turn, merged_body}
+use Rattle.silt_store_set.specs.CoreState.{DecidesValue, GathersNewKey, GathersNext, IsMergeDue, MergeGoesOn, MergeLacksMemory, MayFind, found_damaged, has_decided, merge_due}
 use Rattle.silt_store_set.proofs.Calls.{seen, seen_failed, advanced, answered, broke, refused}
 use Rattle.silt_store_set.proofs.Damages.{place_seen, slot_below}
 use Rattle.silt_store_set.proofs.Gatherings.{decides_next, new_key_next}
@@ -132,10 +129,8 @@ module _ {D F : Type 0} (facts : Ghosts D F) (disk : D) (stores : EngineState) (
 
   -- no step makes more than the last one
   few_made : (progress : ProgressOf) (new : D) → MakesAtMost facts.writes facts.syncs (step_writes progress) (step_syncs progress) disk new → MakesAtMost facts.writes facts.syncs 3 4 disk new
-  few_made Idle new most = most_more most (omega arith) (omega arith)
-  few_made Waiting new most = most_more most (omega arith) (omega arith)
-  few_made Moved new most = most_more most (omega arith) (omega arith)
   few_made Finished new most = most
+  few_made progress new most = most_more most (omega arith) (omega arith)
 
   pub stepped : (progress : ProgressOf) (new : D) (after : EngineState) → SameDisk (facts.content disk) (facts.content new) → Advances [] (facts.content disk) (facts.content new) stores after
       → Merges progress stores after → (progress ≡ Finished → IsTrue (facts.content disk).honest → HasMergedEntries (facts.content disk) (facts.content new) stores after)

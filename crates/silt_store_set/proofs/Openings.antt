@@ -1,28 +1,15 @@
 -- What opening returns, from what recovery finds.
-use Rattle.silt_store_set.proofs.Common.{◌≡◌, ◌-◌, IsTrue, [], Option, Some, None, refl, ap, sym, ◌∙◌, arith, Content, GaveAny, Ghosts, map_after, LogState}
+use Rattle.silt_store_set.proofs.Common.{◌≡◌, ◌-◌, IsTrue, [], Option, Some, None, refl, ap, sym, ◌∙◌, arith, Content, Ghosts, map_after, LogState}
 use Rattle.silt_store_set.proofs.Common.{waiting_rows, waiting_commands, EngineState, meaning, Opens, convert_work, merge_work, OpeningCause, Refusal}
 use Rattle.silt_image.specs.Meaning.{IsGood}
 use Rattle.silt_log.specs.Rows.{rows_from}
-use Rattle.silt_recovery.specs.Opening.{IsUnwrittenUnlessFailed, TakesUp}
-use Rattle.silt_recovery.specs.Refusals.{IsFound, IsRefusedLook}
-use Rattle.silt_recovery.specs.declared.fault.OpenError.{OpenError}
+use Rattle.silt_recovery.specs.Opening.{TakesUp}
 use Rattle.silt_recovery.specs.declared.fault.OpenError.TheVariants.{NotFormatted, Damaged, Crowded, Device, NoMemory}
 use Rattle.silt_event.specs.Events.{IsOpeningRefusal}
-use Rattle.silt_recovery.specs.Errors.{refusal_of_opening}
 use Rattle.silt_event.specs.declared.refusal.Refusal.TheVariants as refusal
 use Rattle.silt_store_set.proofs.Calls.{seen, stands_seen}
 
 -- ---- why an opening is refused
-
--- as the device is refused, so is the opening
-pub opening_cause : {D F : Type 0} (facts : Ghosts D F) (old : Content) (disk : D) (error : OpenError F)
-    → IsRefusedLook (λ found. IsTrue old.honest → IsFound old.shown found) (GaveAny facts.gave disk) error → IsUnwrittenUnlessFailed old (facts.content disk) error
-    → OpeningCause facts old disk (refusal_of_opening error)
-opening_cause facts old disk NotFormatted found unwritten = (found, unwritten)
-opening_cause facts old disk (Damaged place) found unwritten = (found, unwritten)
-opening_cause facts old disk Crowded found unwritten = (found, unwritten)
-opening_cause facts old disk (Device fault) given unwritten = given
-opening_cause facts old disk NoMemory none unwritten = unwritten
 
 never : {A : Type 0} (found : Option A) (x : A) → found ≡ None → found ≡ Some x → ⊥
 never found x none some = absurd (let no : None ≡ Some x = sym none ∙ some in cc)

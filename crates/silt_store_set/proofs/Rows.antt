@@ -1,10 +1,9 @@
 -- What a put or a delete does, from what taking its row does.
-use Rattle.silt_store_set.proofs.Common.{◌≡◌, ◌≢◌, ◌<◌, ◌≤◌, ℕ, ◌*◌, ◌==◌, Bool, true, if◌then◌else◌, Option, Some, None, ◌+◌, ◌%◌, ◌^◌, inl, inr, false}
-use Rattle.silt_store_set.proofs.Common.{IsTrue, List, [], ◌∷◌, length, refl, ap, sym, ◌∙◌, subst, arith, length-map, GaveAny, Makes, MakesAtMost, Ghosts, Key}
-use Rattle.silt_store_set.proofs.Common.{Command, Map, map_after, command_of, StoredRow, all_rows, Body, Advances, Breaks, IsLastGeneration, Remaps, SameDisk}
-use Rattle.silt_store_set.proofs.Common.{Stands, full_image, waiting_commands, EngineState, region_of, meaning, Put, Delete, Refusal, Spent, Accepted, Refused}
-use Rattle.silt_store_set.proofs.Common.{is_failed, basis_of, progress_due, Idle, Waiting, Moved, Finished, Shape, CoreState, Cause, convert_due, convert_work}
-use Rattle.silt_store_set.proofs.Common.{written_of, Does, MakesRow, most_syncs, most_writes, some_wait}
+use Rattle.silt_store_set.proofs.Common.{◌≡◌, ◌≢◌, ◌<◌, ◌≤◌, ℕ, ◌*◌, ◌==◌, Bool, true, if◌then◌else◌, Option, Some, None, ◌+◌, ◌%◌, ◌^◌, inl, inr, false, IsTrue, List, [], ◌∷◌, length, refl, ap}
+use Rattle.silt_store_set.proofs.Common.{sym, ◌∙◌, subst, arith, length-map, GaveAny, Makes, MakesAtMost, Ghosts, Key, Command, command_of, StoredRow, all_rows, Body, Advances, Breaks}
+use Rattle.silt_store_set.proofs.Common.{IsLastGeneration, Remaps, SameDisk, Stands, full_image, waiting_commands, EngineState, region_of, meaning, Put, Delete, Refusal, Spent, Accepted, Refused}
+use Rattle.silt_store_set.proofs.Common.{is_failed, basis_of, progress_due, Idle, Waiting, Moved, Finished, Shape, CoreState, Cause, convert_due, convert_work, written_of, Does, MakesRow}
+use Rattle.silt_store_set.proofs.Common.{most_syncs, most_writes, some_wait}
 use Rattle.std.proofs.lemmas.Bool.{ne_eqb}
 use Rattle.silt_frame.specs.declared.key.Kind.{Kind}
 use Rattle.silt_frame.specs.declared.key.Kind.TheVariants as kind
@@ -17,8 +16,7 @@ use Rattle.silt_engine.specs.Costs as engine
 use Rattle.silt_event.specs.declared.refusal.Refusal.TheVariants.{Device, NoMemory, NoRoom}
 use Rattle.silt_event.specs.declared.progress.Progress.{Progress as ProgressOf}
 use Rattle.silt_disk.specs.Layout.{InLimits}
-use Rattle.silt_store_set.specs.CoreState.{AreAllInUse, FailsBy, FailsRead, Freezes, HasFreeLog}
-use Rattle.silt_store_set.specs.CoreState.{IsStuck, MayWrite, Takes, row_event}
+use Rattle.silt_store_set.specs.CoreState.{AreAllInUse, FailsBy, FailsRead, Freezes, HasFreeLog, IsStuck, MayWrite, Takes, row_event}
 use Rattle.silt_store_set.proofs.Waits.{waits_same}
 use Rattle.silt_store_set.proofs.Calls.{seen, seen_failed, advanced, broke, refused}
 
@@ -46,8 +44,7 @@ neither_idle false first second works waits = waits
 -- with a frozen log a step of conversion is due, or waits for a hash region
 not_idle : (frozen hashes regions slots : ℕ) (written : Option ℕ) → 1 ≤ frozen → progress_due frozen hashes regions slots written ≢ Idle
 not_idle frozen hashes regions slots (Some written) some = neither_idle (written == slots) Finished Moved (λ is. absurd (cc)) (λ is. absurd (cc))
-not_idle frozen hashes regions slots None some =
-    rw (ne_eqb frozen 0 (λ is. omega (arith, some, is))) (neither_idle (hashes == regions) Waiting Moved (λ is. absurd (cc)) (λ is. absurd (cc)))
+not_idle frozen hashes regions slots None some = rw (ne_eqb frozen 0 (λ is. omega (arith, some, is))) (neither_idle (hashes == regions) Waiting Moved (λ is. absurd (cc)) (λ is. absurd (cc)))
 
 -- there are at least two logs
 pub least_logs : (shape : Shape) → InLimits shape → 2 ≤ shape.logs
@@ -93,8 +90,7 @@ module _ {D F : Type 0} (facts : Ghosts D F) (disk : D) (stores : EngineState) (
     λ h. record {
       waiting = (turns.waits h).waiting;
       base =
-          (meaning (facts.content new) after stood).shown (same.honest ∙ h) ∙ (turns.waits h).base
-          ∙ ap (λ (m : Map). map_after m (waiting_commands (facts.content disk) stores)) (sym ((meaning (facts.content disk) stores stands).shown h));
+          cc ((meaning (facts.content new) after stood).shown (same.honest ∙ h), (turns.waits h).base, (meaning (facts.content disk) stores stands).shown h);
     },
   )
 

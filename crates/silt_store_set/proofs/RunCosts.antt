@@ -1,8 +1,7 @@
 -- How many writes and syncs runs make, from what each call makes.
-use Rattle.silt_store_set.proofs.Common.{◌≡◌, ◌≢◌, ◌≤◌, ℕ, zero, suc, ◌+◌, ◌*◌, ◌==◌, Bool, true, false, if◌then◌else◌, IsTrue, List, [], ◌∷◌, ◌++◌, length}
-use Rattle.silt_store_set.proofs.Common.{Option, Some, None, inl, inr, refl, ap, sym, ◌∙◌, subst, arith, Ghosts, none_made, Command, Event, Put, Delete, Swap}
-use Rattle.silt_store_set.proofs.Common.{Flush, Get, Convert, Merge, Moved, Finished, Reply, Accepted, Acknowledged, Found, Absent, Differs, Progress, Refused}
-use Rattle.silt_store_set.proofs.Common.{accepted_command, accepted_commands, ConvertGoesOn, CoreState, Does, MakesRow, Runs, entries_written, is_convert}
+use Rattle.silt_store_set.proofs.Common.{◌≡◌, ◌≢◌, ◌≤◌, ℕ, zero, suc, ◌+◌, ◌*◌, ◌==◌, Bool, true, false, if◌then◌else◌, IsTrue, List, [], ◌∷◌, ◌++◌, length, Option, Some, None, inl, inr, refl, ap}
+use Rattle.silt_store_set.proofs.Common.{sym, ◌∙◌, subst, arith, Ghosts, none_made, Command, Event, Put, Delete, Swap, Flush, Get, Convert, Merge, Moved, Finished, Reply, Accepted, Acknowledged}
+use Rattle.silt_store_set.proofs.Common.{Found, Absent, Differs, Progress, Refused, accepted_command, accepted_commands, ConvertGoesOn, CoreState, Does, MakesRow, Runs, entries_written, is_convert}
 use Rattle.silt_store_set.proofs.Common.{is_merge, some_wait, written_of, eqb-true, Body, progress_due}
 use Rattle.std.specs.Prelude.{◌&&◌}
 use Rattle.std.specs.List.{list_all}
@@ -171,8 +170,7 @@ module _ {D F : Type 0} (facts : Ghosts D F) where
   stays_failed old new (event ∷ events) (reply ∷ replies) runs failed =
       let same : runs.0 ≡ old = (runs.1.failed failed).0 in
       stays_failed runs.0 new events replies runs.2 (ap (λ (c : CoreState D). c.failed) same ∙ failed)
-  stays_failed old new [] (reply ∷ replies) runs failed = absurd runs
-  stays_failed old new (event ∷ events) [] runs failed = absurd runs
+  stays_failed old new events replies runs failed = absurd runs
 
   -- so a store that is not failed was not
   not_failed : (old new : CoreState D) (events : List Event) (replies : List (Reply F)) → Runs facts old events replies new → new.failed ≡ false → old.failed ≡ false
@@ -214,8 +212,7 @@ module _ {D F : Type 0} (facts : Ghosts D F) where
         fewer = omega (arith, one.fewer, rest.fewer);
         made = made_both next.disk one.made after (omega (arith, long)) (omega arith);
       }
-  rows_made old new [] (reply ∷ replies) h front is runs = absurd runs
-  rows_made old new (event ∷ events) [] h front is runs = absurd runs
+  rows_made old new events replies h front is runs = absurd runs
 
   -- a run that freezes no log
   unfrozen : (old new : CoreState D) (events : List Event) (replies : List (Reply F)) → new.body.generation ≡ old.body.generation → RowsMade facts old events replies new

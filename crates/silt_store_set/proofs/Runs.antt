@@ -1,6 +1,5 @@
 -- Runs of events, from what each call does.
-use Rattle.silt_store_set.proofs.Common.{◌≡◌, Bool, true, false, IsTrue, List, [], ◌∷◌, ◌++◌, refl, ap, sym, subst, Ghosts, Event, Failed, Reply, Step, Legal}
-use Rattle.silt_store_set.proofs.Common.{CoreState, map_of, Does, Runs}
+use Rattle.silt_store_set.proofs.Common.{◌≡◌, Bool, true, false, IsTrue, List, [], ◌∷◌, ◌++◌, refl, ap, sym, subst, Ghosts, Event, Failed, Reply, Step, Legal, CoreState, map_of, Does, Runs}
 use Rattle.silt_store_set.proofs.Calls.{step_refused}
 
 module _ {D F : Type 0} (facts : Ghosts D F) where
@@ -9,8 +8,7 @@ module _ {D F : Type 0} (facts : Ghosts D F) where
       → Runs facts old events replies mid → Does facts mid new event reply → Runs facts old (events ++ event ∷ []) (replies ++ reply ∷ []) new
   runs_more old mid new [] [] event reply runs does = (new, subst (λ c. Does facts c new event reply) runs does, refl)
   runs_more old mid new (e ∷ events) (r ∷ replies) event reply runs does = (runs.0, runs.1, runs_more runs.0 mid new events replies event reply runs.2 does)
-  runs_more old mid new [] (r ∷ replies) event reply runs does = absurd runs
-  runs_more old mid new (e ∷ events) [] event reply runs does = absurd runs
+  runs_more old mid new events replies event reply runs does = absurd runs
 
   -- of a failed store, and of one that is not, the reply is that of a map
   pub does_step : (old new : CoreState D) (event : Event) (reply : Reply F) → IsTrue (facts.content old.disk).honest → Does facts old new event reply → Step (map_of old) event reply (map_of new)
@@ -32,5 +30,4 @@ module _ {D F : Type 0} (facts : Ghosts D F) where
       let next = runs.0 in
       let there : IsTrue (facts.content next.disk).honest = subst IsTrue (sym runs.1.disk.honest) h in
       (next.count, map_of next, runs.1.counts, does_step old next event reply h runs.1, legal_runs next new events replies there runs.2)
-  legal_runs old new [] (reply ∷ replies) h runs = absurd runs
-  legal_runs old new (event ∷ events) [] h runs = absurd runs
+  legal_runs old new events replies h runs = absurd runs

@@ -1,7 +1,6 @@
 -- A merge in progress has a step left.
-use Rattle.silt_store_set.proofs.Common.{◌≡◌, ◌≤◌, ℕ, ◌+◌, ◌*◌, Bool, false, IsTrue, Option, Some, None, IfSome, inl, inr, ap, subst, arith, cases_lt, Shape}
-use Rattle.silt_store_set.proofs.Common.{Ghosts, key_count, MergeState, oldest_stores, full_stores, merge_sources, sources_full, taken_sound, HasGathered}
-use Rattle.silt_store_set.proofs.Common.{Stands, EngineState, IsMerging, BasisState, IsCore, CoreState, merge_work}
+use Rattle.silt_store_set.proofs.Common.{◌≡◌, ◌≤◌, ℕ, ◌+◌, ◌*◌, Bool, false, IsTrue, Option, Some, None, IfSome, inl, inr, ap, subst, arith, cases_lt, Shape, Ghosts, key_count, MergeState}
+use Rattle.silt_store_set.proofs.Common.{oldest_stores, full_stores, merge_sources, sources_full, taken_sound, HasGathered, Stands, EngineState, IsMerging, BasisState, IsCore, CoreState, merge_work}
 use Rattle.silt_merge.specs.Rows.{sources}
 use Rattle.silt_merge.specs.State.{IsHeldMerge}
 use Rattle.silt_store_set.specs.CoreState.{IsWithinSteps}

@@ -1,4 +1,4 @@
-use Rattle.silt_store_set.proofs.Common.{◌≡◌, ◌+◌, ◌++◌, ◌∷◌, [], IsTrue, Vec, take, ap, sym, ◌∙◌, refl, Global, take_more, take_all, Event}
+use Rattle.silt_store_set.proofs.Common.{◌≡◌, ◌+◌, ◌++◌, ◌∷◌, [], IsTrue, take, ◌∙◌, refl, take_more, take_all}
 use Rattle.silt_store_set.proofs.Histories.{lives_more}
 use Rattle.silt_store_set.proofs.Livings.{lives_on, lives_ran}
 use Rattle.silt_store_set.proofs.life.lives.Goals as goal
@@ -16,8 +16,7 @@ loop-events-preserved g c = record {
   ran =
       let life = rw c.deref.ensures.value at c.live-reply.ensures.ran in
       let taken : take (c.loop-events.events-index + 1) c.args.lives.now ≡ take c.loop-events.events-index c.args.lives.now ++ c.events-item.result ∷ [] =
-      take_more c.args.lives.now c.loop-events.events-index c.events-item.result c.loop-events-test.true
-      ∙ ap (λ (x : Vec Event Global). take c.loop-events.events-index c.args.lives.now ++ x ∷ []) (sym c.events-item.is) in
+      cc (take_more c.args.lives.now c.loop-events.events-index c.events-item.result c.loop-events-test.true, c.events-item.is) in
       rw (taken, c.in_ok-push.ensures.items) (lives_on g.D.Disk c.args.value_len (take c.loop-events.events-index c.args.lives.now) c.loop-events.replies.items
       c.args.disk c.loop-events.disk c.live-reply.result.1 c.events-item.result c.live-reply.result.0 c.loop-events.invariant.ran life);
   so_far = λ m starts.
@@ -26,8 +25,7 @@ loop-events-preserved g c = record {
       let now = c.live-reply.ensures.life before.0 (record { honest = here; safe = before.2 }) in
       let life = rw c.deref.ensures.value at now.1 in
       let taken : take (c.loop-events.events-index + 1) c.args.lives.now ≡ take c.loop-events.events-index c.args.lives.now ++ c.events-item.result ∷ [] =
-      take_more c.args.lives.now c.loop-events.events-index c.events-item.result c.loop-events-test.true
-      ∙ ap (λ (x : Vec Event Global). take c.loop-events.events-index c.args.lives.now ++ x ∷ []) (sym c.events-item.is) in (
+      cc (take_more c.args.lives.now c.loop-events.events-index c.events-item.result c.loop-events-test.true, c.events-item.is) in (
         now.0,
         rw (taken, c.in_ok-push.ensures.items) (lives_more m (take c.loop-events.events-index c.args.lives.now) c.loop-events.replies.items
             before.0 now.0 c.events-item.result c.live-reply.result.0 before.1 life),
@@ -38,8 +36,7 @@ loop-events-preserved g c = record {
 pub returns-clause-history : goal.returns-clause-history
 returns-clause-history g c = λ m starts.
     let so_far = c.loop-events.invariant.so_far m starts in
-    let all = take_all c.loop-events.events-index c.args.lives.now c.loop-events-test.false in
-    (so_far.0, rw all at so_far.1)
+    (so_far.0, rw (take_all c.loop-events.events-index c.args.lives.now c.loop-events-test.false) at so_far.1)
 
 pub returns-clause-ran : goal.returns-clause-ran
 returns-clause-ran g c =

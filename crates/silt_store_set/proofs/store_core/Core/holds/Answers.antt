@@ -24,5 +24,4 @@ returns-in-Ok-false-clause-holds g c =
     (c.in-Ok-false.ensures.none stands (ap Ok c.in-Ok-false.field-0-test)))
 
 pub returns-in-Err-clause-fault : goal.returns-in-Err-clause-fault
-returns-in-Err-clause-fault g c =
-    rw (← c.self.view_is) (record { given = c.in-Err.ensures.fault; working = rw (← c.self.view_is) at c.requires.working; same = refl })
+returns-in-Err-clause-fault g c = rw (← c.self.view_is) (record { given = c.in-Err.ensures.fault; working = rw (← c.self.view_is) at c.requires.working; same = refl })

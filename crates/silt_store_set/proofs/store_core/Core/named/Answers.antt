@@ -1,4 +1,3 @@
-use Rattle.silt_store_set.proofs.Common.{Bool, ap, sym, ◌∙◌, basis_kept, basis_of}
 use Rattle.silt_store_set.proofs.Digests.{own_said, shown_is_base}
 use Rattle.silt_store_set.proofs.store_core.Core.named.Goals as goal
 
@@ -11,5 +10,4 @@ pub returns-clause-map : goal.returns-clause-map
 returns-clause-map g c =
     let content = g.D.Disk.content c.self.inside.disk in
     rw (← c.self.view_is)
-    (λ working honest. shown_is_base content c.self.inside.engine (c.self.invariant.stands working) honest
-    ∙ ap (λ (failed : Bool). (basis_kept failed c.self.inside.basis (basis_of content c.self.inside.engine)).base) (sym working))
+    (λ working honest. cc (shown_is_base content c.self.inside.engine (c.self.invariant.stands working) honest))

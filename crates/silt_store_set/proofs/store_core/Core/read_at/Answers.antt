@@ -1,4 +1,3 @@
-use Rattle.silt_store_set.proofs.Common.{◌≤◌, ◌+◌, length, subst, sym, device_size, CoreState}
 use Rattle.silt_store_set.proofs.store_core.Core.read_at.Goals as goal
 
 pub read-requires : goal.read-requires

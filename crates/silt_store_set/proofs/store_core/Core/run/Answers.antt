@@ -1,4 +1,4 @@
-use Rattle.silt_store_set.proofs.Common.{◌≡◌, ◌+◌, ◌++◌, ◌∷◌, [], List, take, sym, ◌∙◌, ap, subst, take_more, take_all, Event, Runs}
+use Rattle.silt_store_set.proofs.Common.{◌≡◌, ◌+◌, ◌++◌, ◌∷◌, [], List, take, sym, ◌∙◌, subst, take_more, take_all, Event, Runs}
 use Rattle.std.proofs.Common.{rules}
 use Rattle.silt_store_set.proofs.Calls.{endures_seen}
 use Rattle.silt_store_set.proofs.Keeps.{keeps_runs}
@@ -10,8 +10,7 @@ pub loop-event-preserved : goal.loop-event-preserved
 loop-event-preserved g c = record {
   runs =
       let taken : take (c.loop-event.event-index + 1) c.args.events.now ≡ take c.loop-event.event-index c.args.events.now ++ c.event-item.result ∷ [] =
-      take_more c.args.events.now c.loop-event.event-index c.event-item.result c.loop-event-test.true
-      ∙ ap (λ (e : Event). take c.loop-event.event-index c.args.events.now ++ e ∷ []) (sym c.event-item.is) in
+      cc (take_more c.args.events.now c.loop-event.event-index c.event-item.result c.loop-event-test.true, c.event-item.is) in
       rw (taken, c.in_ok-push.ensures.items) (runs_more g.D.Disk c.args.self.now c.loop-event.self c.answer-reply.new.self
       (take c.loop-event.event-index c.args.events.now) c.loop-event.replies.items c.event-item.result c.answer-reply.result c.loop-event.invariant.runs c.answer-reply.ensures);
   same_disk = record {
