@@ -1,19 +1,12 @@
 -- The key that is decided next is the lowest one, and by what it is decided.
-use Rattle.std.proofs.Common.{◌≡◌, ◌≢◌, ℕ, ◌<◌, nat_lt, Bool, true, false, not, List, [], length, slice_get, Option, Some, None, option_map, inl, inr, refl}
-use Rattle.std.proofs.Common.{sym, subst, ap, ◌∙◌, is_some, Ordering, lt-ltb, Less, Equal, Greater}
+use Rattle.silt_merge.proofs.Common.{◌≡◌, ◌≢◌, ℕ, ◌<◌, nat_lt, Bool, true, false, List, [], length, slice_get, Option, Some, None, option_map, inl, inr, refl, sym, subst, ap, ◌∙◌, Ordering}
+use Rattle.silt_merge.proofs.Common.{Less, Equal, Greater, slice_cmp, exact_bytes, slice_get_within, Key, entry_row, StoredRow, key_of_row, key_at, IsNextEntry, is_above, is_behind}
+use Rattle.silt_merge.proofs.Common.{source_at, Choice, Source}
+use Rattle.std.proofs.Common.{not, is_some, lt-ltb}
 use Rattle.std.specs.Ordering.{match_ordering, nat_cmp}
-use Rattle.std.specs.Cmp.Lexicographic.{slice_cmp, nat_list_cmp_total}
-use Rattle.std.proofs.lemmas.Map.Lookups.{exact_bytes}
-use Rattle.std.proofs.lemmas.Option.{slice_get_within}
-use Rattle.silt_frame.specs.declared.key.Key.{Key}
-use Rattle.silt_frame.specs.Rows.{entry_row, StoredRow}
-use Rattle.silt_sorted_store.proofs.Entries.{key_of_row}
-use Rattle.silt_sorted_store.proofs.Rising.{key_at, not_below_itself}
-use Rattle.silt_merge.specs.Choice.{IsFirstWaiting, IsNextEntry, IsOffered, choice_of, lower_choice}
-use Rattle.silt_trie.specs.Building.{is_above}
-use Rattle.silt_merge.specs.State.{is_behind, source_at}
-use Rattle.silt_merge.specs.declared.choice.Choice.{Choice}
-use Rattle.silt_merge.specs.declared.source.Source.{Source}
+use Rattle.std.specs.Cmp.Lexicographic.{nat_list_cmp_total}
+use Rattle.silt_sorted_store.proofs.Rising.{not_below_itself}
+use Rattle.silt_merge.specs.Choice.{IsFirstWaiting, IsOffered, choice_of, lower_choice}
 use Rattle.silt_merge.proofs.Deciding.{IsLowest}
 use Rattle.silt_merge.proofs.Newest.{turned}
 
@@ -28,7 +21,7 @@ offered_row : (waiting : List (Key × Source)) (last : Option Key) (key : Key) (
     → IsFirstWaiting waiting (Some (key, source)) → ((key : List ℕ) (its : Source) → source_at waiting key ≡ Some its → is_above last key ≡ true)
     → choice.key ≡ key → choice.source ≡ Some source → IsOffered waiting last choice
 offered_row waiting last key source choice is above its_key its_source = record {
-  source = λ other same. ap (λ (k : Key). source_at waiting k.0) its_key ∙ is.0 ∙ sym its_source ∙ same;
+  source = λ other same. cc (is.0);
   none = λ none. absurd (cc);
   least = λ other its waits less. is.1 other its waits (ap (λ (k : Key). slice_cmp nat_cmp other k.0) (sym its_key) ∙ less);
   above = ap (λ (k : Key). is_above last k.0) its_key ∙ above key.0 source is.0;
@@ -42,7 +35,7 @@ offered_entry waiting last next choice its_key none passes ahead least = record 
   source = λ other is. absurd (cc);
   none = λ same. passes;
   least = λ other its waits less. least other its waits (ap (λ (k : Key). slice_cmp nat_cmp other k.0) (sym its_key) ∙ less);
-  above = ap (λ (k : Key). is_above last k.0) its_key ∙ not_false (is_above last next.0) ahead;
+  above = cc (not_false (is_above last next.0) ahead);
 }
   where
     not_false : (b : Bool) → not b ≡ false → b ≡ true
@@ -64,24 +57,20 @@ pub offered : (waiting : List (Key × Source)) (last : Option Key) (first : Opti
 offered waiting last None None choice is chosen ahead above = absurd (cc)
 offered waiting last None (Some next) choice is chosen ahead above =
     let it : record { key = next; source = None; passes = true } ≡ choice = cc in
-    subst (IsOffered waiting last) it
-    (offered_entry waiting last next (record { key = next; source = None; passes = true }) refl refl refl ahead
-    (λ key its waits. let none : source_at waiting key ≡ None = ap (λ l. source_at l key) is in absurd (cc)))
+    rw it at (offered_entry waiting last next (record { key = next; source = None; passes = true }) refl refl refl ahead (λ key its waits. let none : source_at waiting
+    key ≡ None = ap (λ l. source_at l key) is in absurd (cc)))
 offered waiting last (Some (key, source)) None choice is chosen ahead above =
     let it : record { key = key; source = Some source; passes = false } ≡ choice = cc in
-    subst (IsOffered waiting last) it (offered_row waiting last key source (record { key = key; source = Some source; passes = false }) is above refl refl)
+    rw it at (offered_row waiting last key source (record { key = key; source = Some source; passes = false }) is above refl refl)
 offered waiting last (Some (key, source)) (Some next) choice is chosen ahead above =
     let it : lower_choice key source next ≡ choice = cc in
     let go : (o : Ordering) → slice_cmp nat_cmp key.0 next.0 ≡ o → IsOffered waiting last (lower_choice key source next) = elim [
-      | Less ↦ λ o. subst (IsOffered waiting last) (sym (lower_is key source next Less o))
-          (offered_row waiting last key source (record { key = key; source = Some source; passes = false }) is above refl refl)
-      | Equal ↦ λ o. subst (IsOffered waiting last) (sym (lower_is key source next Equal o))
-          (offered_row waiting last key source (record { key = key; source = Some source; passes = true }) is above refl refl)
-      | Greater ↦ λ o. subst (IsOffered waiting last) (sym (lower_is key source next Greater o))
-          (offered_entry waiting last next (record { key = next; source = None; passes = true }) refl refl refl ahead
-          (λ other its waits less. is.1 other its waits (nat_list_cmp_total.trans other next.0 key.0 less (turned key.0 next.0 o))))
+      | Less ↦ λ o. subst (IsOffered waiting last) (sym (lower_is key source next Less o)) (offered_row _ last key source _ is above refl refl)
+      | Equal ↦ λ o. subst (IsOffered waiting last) (sym (lower_is key source next Equal o)) (offered_row _ last key source _ is above refl refl)
+      | Greater ↦ λ o. rw (← (lower_is key source next Greater o)) at (offered_entry waiting last next (record { key = next; source = None; passes = true }) refl refl
+          refl ahead (λ other its waits less. is.1 other its waits (nat_list_cmp_total.trans other next.0 key.0 less (turned key.0 next.0 o))))
     ] in
-    subst (IsOffered waiting last) it (go (slice_cmp nat_cmp key.0 next.0) refl)
+    rw it at (go (slice_cmp nat_cmp key.0 next.0) refl)
 
 -- an entry is skipped only if there is one
 pub passes_next : (first : Option (Key × Source)) (next : Option Key) (choice : Choice) → choice_of first next ≡ Some choice → choice.passes ≡ true → is_some next ≡ true
@@ -125,7 +114,7 @@ module _ (entries : List StoredRow) (passed : ℕ) (bytes : List ℕ) (row_of : 
 
   -- no row waits for a key below the first
   not_before : (key : Key) (source : Source) → IsFirstWaiting waiting (Some (key, source)) → (other : List ℕ) (row : StoredRow) → waits other ≡ Some row → slice_cmp nat_cmp other key.0 ≢ Less
-  not_before key source is other row some = let its = map_some row_of (source_at waiting other) row some in is.1 other its.0 its.1
+  not_before key source is other row some = let its = map_some row_of _ row some in is.1 other its.0 its.1
 
   -- the next entry, if its key is less than that of each row
   chosen_entry : (next : Key) → IsNextEntry entries passed bytes (Some next) → ((other : List ℕ) (source : Source) → source_at waiting other ≡ Some source → slice_cmp nat_cmp next.0 other ≡ Less)
@@ -135,10 +124,10 @@ module _ (entries : List StoredRow) (passed : ℕ) (bytes : List ℕ) (row_of : 
       record {
         lowest = record {
           is = inr there;
-          rows = λ other row some. let its = map_some row_of (source_at waiting other) row some in not_both next.0 other (above other its.0 its.1);
-          entry = λ below less. not_below_itself (key_at entries passed) next.0 there.1 less;
+          rows = λ other row some. let its = map_some row_of _ row some in not_both next.0 other (above other its.0 its.1);
+          entry = λ below less. not_below_itself _ next.0 there.1 less;
         };
-        source = nothing (source_at waiting next.0) refl;
+        source = nothing _ refl;
         passes = λ same. there;
         stays = λ other. absurd (cc);
         entry = λ same. (is.0, refl);
@@ -166,29 +155,24 @@ module _ (entries : List StoredRow) (passed : ℕ) (bytes : List ℕ) (row_of : 
   chosen None None choice is there some made = absurd (cc)
   chosen None (Some next) choice is there some made =
       let it : record { key = next; source = None; passes = true } ≡ choice = cc in
-      subst (IsChosen entries passed bytes row_of waiting) it (chosen_entry next there (λ other source waits_for. let none = none_waits is other in absurd (cc)))
+      rw it at (chosen_entry next there (λ other source waits_for. let none = none_waits is other in absurd (cc)))
   chosen (Some (key, source)) None choice is there some made =
       let it : record { key = key; source = Some source; passes = false } ≡ choice = cc in
-      subst (IsChosen entries passed bytes row_of waiting) it
-      (chosen_row key source false is (λ below. absurd (no_next some below)) (λ same. absurd (cc)) (λ same below. absurd (no_next some below)))
+      rw it at (chosen_row key source false is (λ below. absurd (no_next some below)) (λ same. absurd (cc)) (λ same below. absurd (no_next some below)))
   chosen (Some (key, source)) (Some next) choice is there some made =
       let it : lower_choice key source next ≡ choice = cc in
       let at = next_there next there in
       let go : (o : Ordering) → slice_cmp nat_cmp key.0 next.0 ≡ o → IsChosen entries passed bytes row_of waiting (lower_choice key source next) = elim [
-        | Less ↦ λ o. subst (IsChosen entries passed bytes row_of waiting) (sym (lower_is key source next Less o))
-            (chosen_row key source false is
-            (λ below less. not_both key.0 next.0 o (ap (λ k. slice_cmp nat_cmp k key.0) (sym at.1) ∙ less))
-            (λ same. absurd (cc))
-            (λ same below. ap (slice_cmp nat_cmp key.0) at.1 ∙ o))
-        | Equal ↦ λ o. subst (IsChosen entries passed bytes row_of waiting) (sym (lower_is key source next Equal o))
-            (chosen_row key source true is
-            (λ below less. not_below_itself (key_at entries passed) key.0 (at.1 ∙ sym (exact_bytes key.0 next.0 o)) less)
-            (λ same. (at.0, at.1 ∙ sym (exact_bytes key.0 next.0 o)))
-            (λ same. absurd (cc)))
-        | Greater ↦ λ o. subst (IsChosen entries passed bytes row_of waiting) (sym (lower_is key source next Greater o))
-            (chosen_entry next there (λ other its waits_for. below_all key.0 next.0 other (turned key.0 next.0 o) (is.1 other its waits_for)))
+        | Less ↦ λ o. subst (IsChosen entries passed bytes row_of waiting) (sym (lower_is key source next Less o)) (chosen_row key source false is (λ below
+            less. not_both key.0 next.0 o (ap (λ k. slice_cmp nat_cmp k key.0) (sym at.1) ∙ less)) (λ same. absurd (cc)) (λ same below. ap (slice_cmp nat_cmp key.0)
+            at.1 ∙ o))
+        | Equal ↦ λ o. subst (IsChosen entries passed bytes row_of waiting) (sym (lower_is key source next Equal o)) (chosen_row key source true is (λ below
+            less. not_below_itself _ key.0 (at.1 ∙ sym (exact_bytes key.0 next.0 o)) less) (λ same. (at.0, at.1 ∙ sym (exact_bytes key.0 next.0 o))) (λ same. absurd
+            (cc)))
+        | Greater ↦ λ o. rw (← (lower_is key source next Greater o)) at (chosen_entry next there (λ other its waits_for. below_all key.0 next.0 other (turned key.0 next.0
+            o) (is.1 other its waits_for)))
       ] in
-      subst (IsChosen entries passed bytes row_of waiting) it (go (slice_cmp nat_cmp key.0 next.0) refl)
+      rw it at (go (slice_cmp nat_cmp key.0 next.0) refl)
     where
       below_all : (key next other : List ℕ) → slice_cmp nat_cmp next key ≡ Less → slice_cmp nat_cmp other key ≢ Less → slice_cmp nat_cmp next other ≡ Less
       below_all key next other less least =

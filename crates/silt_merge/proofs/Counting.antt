@@ -1,19 +1,17 @@
 -- There are as many entries as keys with a value.
-use Rattle.std.proofs.Common.{◌≡◌, ℕ, Bool, true, false, cond, T, List, [], ◌∷◌, filter, length, map, Some, option_and_then, option_map, refl, sym, subst, ap, ◌∙◌, bytes_eq}
+use Rattle.silt_merge.proofs.Common.{◌≡◌, ℕ, Bool, true, false, cond, List, [], ◌∷◌, filter, length, map, Some, option_map, refl, sym, subst, ap, ◌∙◌, bytes_eq, slice_cmp, cond-true}
+use Rattle.silt_merge.proofs.Common.{length-map, is_eq-slice_cmp, StoredRow, is_put_row, newest_rows}
+use Rattle.std.proofs.Common.{T, option_and_then}
 use Rattle.std.specs.Ordering.{eq_by_cmp, is_lt, nat_cmp}
-use Rattle.std.specs.Cmp.Lexicographic.{slice_cmp}
 use Rattle.std.specs.FinMap.{entries-from_sorted, from_sorted, get-from_sorted, len, len-entries, same_map, slice_cmp-IsAntisymmetric, nat_cmp-IsAntisymmetric}
 use Rattle.std.specs.FinMap.Entries.{below_all, find, is_sorted}
-use Rattle.std.proofs.lemmas.Bool.{and_from, cond-true}
+use Rattle.std.proofs.lemmas.Bool.{and_from}
 use Rattle.std.proofs.lemmas.Cmp.{eq_by_cmp_equiv, nat_list_cmp_total}
-use Rattle.std.proofs.lemmas.List.{length-map}
-use Rattle.std.proofs.lemmas.Map.Text.{is_eq-slice_cmp}
 use Rattle.silt_event.specs.Commands.{Map}
 use Rattle.silt_event.specs.Rows.{value_given, map_of_rows}
 use Rattle.silt_event.proofs.Rows.{newest_law}
-use Rattle.silt_frame.specs.Rows.{StoredRow, is_put_row}
 use Rattle.silt_merge.specs.Laws.{MergedCountLaw}
-use Rattle.silt_merge.specs.Rows.{merged_rows, newest_rows}
+use Rattle.silt_merge.specs.Rows.{merged_rows}
 use Rattle.silt_merge.proofs.Newest.{Above, Rises, merged_map, newest_rising, no_put_first, put_first, rises_newest, rises_puts, row_with}
 
 -- the keys of rows with their values
@@ -27,7 +25,7 @@ below_pairs key (row ∷ rows) above = and_from _ _ (ap is_lt above.0) (below_pa
 
 sorted_pairs : (rows : List StoredRow) → Rises rows → is_sorted (slice_cmp nat_cmp) (pairs rows) ≡ true
 sorted_pairs [] rises = refl
-sorted_pairs (row ∷ rows) rises = and_from _ _ (below_pairs row.key rows rises.0) (sorted_pairs rows rises.1)
+sorted_pairs (row ∷ rows) rises = and_from _ _ (below_pairs _ rows rises.0) (sorted_pairs rows rises.1)
 
 -- the value of a key among them
 find_pairs : (rows : List StoredRow) (key : List ℕ) → find (slice_cmp nat_cmp) key (pairs rows) ≡ option_map (λ (r : StoredRow). r.value) (row_with key rows)
@@ -39,7 +37,7 @@ find_pairs (row ∷ rows) key =
       | true ↦ refl
       | false ↦ further
     ] in
-    ap (λ b. cond b (Some row.value) (find (slice_cmp nat_cmp) key (pairs rows))) same ∙ go (bytes_eq row.key key)
+    cc (go (bytes_eq row.key key))
 
 -- which is what a put gives
 put_values : (rows : List StoredRow) (key : List ℕ) → option_and_then value_given (row_with key (filter is_put_row rows)) ≡ option_map
@@ -47,10 +45,9 @@ put_values : (rows : List StoredRow) (key : List ℕ) → option_and_then value_
 put_values [] key = refl
 put_values (row ∷ rows) key =
     let further = put_values rows key in
-    let here : is_put_row row ≡ true → (b : Bool) → option_and_then value_given (cond b (Some row) (row_with key (filter is_put_row rows))) ≡ option_map
-    (λ (r : StoredRow). r.value) (cond b (Some row) (row_with key (filter is_put_row rows))) =
-    λ put b. elim b as (λ b. option_and_then value_given (cond b (Some row) (row_with key (filter is_put_row rows))) ≡ option_map
-    (λ (r : StoredRow). r.value) (cond b (Some row) (row_with key (filter is_put_row rows)))) [
+    let here : is_put_row row ≡ true → (b : Bool) → option_and_then value_given (cond b (Some row) (row_with key (filter is_put_row rows))) ≡ option_map (λ (r :
+    StoredRow). r.value) (cond b (Some row) (row_with key (filter is_put_row rows))) = λ put b. elim b as (λ b. option_and_then value_given (cond b (Some row)
+    (row_with key (filter is_put_row rows))) ≡ option_map (λ (r : StoredRow). r.value) (cond b (Some row) (row_with key (filter is_put_row rows)))) [
       | true ↦ cond-true _ _ _ put
       | false ↦ further
     ] in
@@ -58,7 +55,7 @@ put_values (row ∷ rows) key =
     (λ (r : StoredRow). r.value) (row_with key (filter is_put_row (row ∷ rows))) = elim [
       | true ↦ λ put. subst (λ l. option_and_then value_given (row_with key l) ≡ option_map (λ (r : StoredRow). r.value) (row_with key l))
           (sym (put_first row rows put)) (here put (bytes_eq row.key key))
-      | false ↦ λ other. subst (λ l. option_and_then value_given (row_with key l) ≡ option_map (λ (r : StoredRow). r.value) (row_with key l)) (sym (no_put_first row rows other)) further
+      | false ↦ λ other. rw (← (no_put_first row rows other)) at further
     ] in
     go (is_put_row row) refl
 

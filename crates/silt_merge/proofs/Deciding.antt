@@ -1,18 +1,16 @@
 -- Which key is decided next, by what row, and what is due after it.
-use Rattle.std.proofs.Common.{◌≡◌, ◌≢◌, ℕ, zero, suc, ◌+◌, ◌<◌, ◌≤◌, ◌⊎◌, nat_lt, Bool, true, false, ◌||◌, cond, List, [], ◌∷◌, ◌++◌, filter, length, take}
-use Rattle.std.proofs.Common.{slice_get, Option, Some, None, inl, inr, refl, sym, ap, ◌∙◌, arith, nat_cmp, bytes_eq, Less}
-use Rattle.std.specs.Option.{is_some, option_or}
-use Rattle.std.specs.Cmp.Lexicographic.{slice_cmp, nat_list_cmp_total}
-use Rattle.std.proofs.lemmas.Bool.{cases_Bool, cases_lt, cases_eq, cases_order, cond-true, cond-false, le-ltb, lt-ltb, ltb-false, or_parts}
-use Rattle.std.proofs.lemmas.List.{length-take-le, take-append-le, take_all, take_more}
+use Rattle.silt_merge.proofs.Common.{◌≡◌, ◌≢◌, ℕ, zero, suc, ◌+◌, ◌<◌, ◌≤◌, ◌⊎◌, nat_lt, Bool, true, false, ◌||◌, cond, List, [], ◌∷◌, ◌++◌, filter, length, take, slice_get, Option, Some}
+use Rattle.silt_merge.proofs.Common.{None, inl, inr, refl, sym, ap, ◌∙◌, arith, bytes_eq, Less, option_or, slice_cmp, cases_Bool, cases_lt, cond-true, cond-false, le-ltb, ltb-false}
+use Rattle.silt_merge.proofs.Common.{take_more, slice_get_within, newest_row, StoredRow, is_put_row, key_of_row, key_at, has_row_with, newest_rows}
+use Rattle.std.proofs.Common.{nat_cmp}
+use Rattle.std.specs.Option.{is_some}
+use Rattle.std.specs.Cmp.Lexicographic.{nat_list_cmp_total}
+use Rattle.std.proofs.lemmas.Bool.{cases_eq, cases_order, lt-ltb, or_parts}
+use Rattle.std.proofs.lemmas.List.{length-take-le, take-append-le, take_all}
 use Rattle.std.proofs.lemmas.List.Elements.{filter-append}
 use Rattle.std.proofs.lemmas.List.Folds.{list_any-append}
-use Rattle.std.proofs.lemmas.Option.{get_or_from_slice_get, slice_get_within}
-use Rattle.silt_event.specs.Rows.{newest_row}
-use Rattle.silt_frame.specs.Rows.{StoredRow, is_put_row}
-use Rattle.silt_sorted_store.proofs.Entries.{key_of_row, row_inside}
-use Rattle.silt_sorted_store.proofs.Rising.{key_at}
-use Rattle.silt_merge.specs.Rows.{has_row_with, newest_rows}
+use Rattle.std.proofs.lemmas.Option.{get_or_from_slice_get}
+use Rattle.silt_sorted_store.proofs.Entries.{row_inside}
 use Rattle.silt_merge.proofs.Newest.{Above, Rises, find_newest, key_below, key_is, key_itself, newest_append, newest_rising, rises_at, rises_newest, row_with}
 
 -- ---- rows that rise, by places
@@ -20,7 +18,7 @@ use Rattle.silt_merge.proofs.Newest.{Above, Rises, find_newest, key_below, key_i
 -- a row that is above a key
 above_there : (key : List ℕ) (rows : List StoredRow) (place : ℕ) (row : StoredRow) → Above key rows → slice_get rows place ≡ Some row → slice_cmp nat_cmp key row.key ≡ Less
 above_there key [] place row above there = absurd (cc)
-above_there key (first ∷ rest) zero row above there = let same : first ≡ row = cc in ap (λ (r : StoredRow). slice_cmp nat_cmp key r.key) (sym same) ∙ above.0
+above_there key (first ∷ rest) zero row above there = let same : first ≡ row = cc in cc (above.0)
 above_there key (first ∷ rest) (suc place) row above there = above_there key rest place row above.1 there
 
 -- a key that rows above another have is above it
@@ -29,7 +27,7 @@ above_found key [] asked row above is = absurd (cc)
 above_found key (first ∷ rest) asked row above is =
     let further = above_found key rest asked row above.1 in
     elim (cases_Bool (bytes_eq first.key asked)) [
-      | inl same ↦ ap (slice_cmp nat_cmp key) (sym (key_is first.key asked same)) ∙ above.0
+      | inl same ↦ ap (slice_cmp nat_cmp key) (sym (key_is _ asked same)) ∙ above.0
       | inr other ↦ further (sym (cond-false _ _ _ other) ∙ is)
     ]
 
@@ -44,7 +42,7 @@ pub none_before : (rows : List StoredRow) (place : ℕ) (row : StoredRow) → Ri
 none_before [] place row rises there = absurd (cc)
 none_before (first ∷ rest) zero row rises there = refl
 none_before (first ∷ rest) (suc place) row rises there =
-    ap (λ b. b || has_row_with row.key (take place rest)) (key_below first.key row.key (above_there first.key rest place row rises.0 there)) ∙ none_before rest place row rises.1 there
+    cc (key_below first.key row.key (above_there first.key rest place row rises.0 there), none_before rest place row rises.1 there)
 
 -- the row of a key has a place
 pub place_found : (key : List ℕ) (rows : List StoredRow) (row : StoredRow) → row_with key rows ≡ Some row → (place : ℕ) × (slice_get rows place ≡ Some row) × (row.key ≡ key)
@@ -55,7 +53,7 @@ place_found key (first ∷ rest) row is =
       | inl same ↦
           let here : Some first ≡ Some row = sym (cond-true _ _ _ same) ∙ is in
           let it : first ≡ row = cc in
-          (0, here, sym (ap (λ (r : StoredRow). r.key) it) ∙ key_is first.key key same)
+          (0, here, sym (ap (λ (r : StoredRow). r.key) it) ∙ key_is _ key same)
       | inr other ↦ let later = further (sym (cond-false _ _ _ other) ∙ is) in (suc later.0, later.1, later.2)
     ]
 
@@ -65,7 +63,7 @@ found_where_has key [] = refl
 found_where_has key (first ∷ rest) =
     let further = found_where_has key rest in
     let go : (b : Bool) → (b || has_row_with key rest) ≡ is_some (cond b (Some first) (row_with key rest)) = elim [ true ↦ refl | false ↦ further ] in
-    go (bytes_eq first.key key)
+    go _
 
 -- a key that is not among the first rows is that of the next one, or above it
 pub next_at : (rows : List StoredRow) (count : ℕ) (key : List ℕ) (found : StoredRow) → Rises rows → row_with key rows ≡ Some found → has_row_with key (take count rows) ≡ false
@@ -75,8 +73,8 @@ next_at (first ∷ rest) zero key found rises is none = (
   first,
   refl,
   elim (cases_Bool (bytes_eq first.key key)) [
-    | inl same ↦ inl (key_is first.key key same)
-    | inr other ↦ inr (above_found first.key rest key found rises.0 (sym (cond-false _ _ _ other) ∙ is))
+    | inl same ↦ inl (key_is _ key same)
+    | inr other ↦ inr (above_found _ rest key found rises.0 (sym (cond-false _ _ _ other) ∙ is))
   ],
 )
 next_at (first ∷ rest) (suc count) key found rises is none =
@@ -85,17 +83,14 @@ next_at (first ∷ rest) (suc count) key found rises is none =
 
 -- the first rows and one more
 take_one : (rows : List StoredRow) (count : ℕ) (row : StoredRow) → slice_get rows count ≡ Some row → take (count + 1) rows ≡ take count rows ++ row ∷ []
-take_one rows count row there =
-    take_more rows count row (slice_get_within rows count row there) ∙ ap (λ r. take count rows ++ r ∷ []) (get_or_from_slice_get rows count row row there)
+take_one rows count row there = cc (take_more rows count row (slice_get_within rows count row there), get_or_from_slice_get rows count row row there)
 
 -- one row more
 pub has_more : (rows : List StoredRow) (count : ℕ) (row : StoredRow) (key : List ℕ) → slice_get rows count ≡ Some row
     → has_row_with key (take (count + 1) rows) ≡ (has_row_with key (take count rows) || bytes_eq row.key key)
 has_more rows count row key there =
     let last : (b : Bool) → (b || false) ≡ b = elim [ true ↦ refl | false ↦ refl ] in
-    ap (has_row_with key) (take_one rows count row there)
-    ∙ list_any-append (λ (r : StoredRow). bytes_eq r.key key) (take count rows) (row ∷ [])
-    ∙ ap (λ b. has_row_with key (take count rows) || b) (last (bytes_eq row.key key))
+    cc (take_one rows count row there, list_any-append (λ (r : StoredRow). bytes_eq r.key key) (take count rows) (row ∷ []), last (bytes_eq row.key key))
 
 -- a key of the first rows is below that of the next one
 pub before_at : (rows : List StoredRow) (count : ℕ) (key : List ℕ) (row : StoredRow) → Rises rows → has_row_with key (take count rows) ≡ true
@@ -105,7 +100,7 @@ before_at (first ∷ rest) zero key row rises has there = absurd (cc)
 before_at (first ∷ rest) (suc count) key row rises has there =
     let further = before_at rest count key row rises.1 in
     elim (cases_Bool (bytes_eq first.key key)) [
-      | inl same ↦ ap (λ k. slice_cmp nat_cmp k row.key) (sym (key_is first.key key same)) ∙ above_there first.key rest count row rises.0 there
+      | inl same ↦ ap (λ k. slice_cmp nat_cmp k row.key) (sym (key_is _ key same)) ∙ above_there _ rest count row rises.0 there
       | inr other ↦ further (sym (ap (λ b. b || has_row_with key (take count rest)) other) ∙ has) there
     ]
 
@@ -161,15 +156,15 @@ module _ (entries hashed : List StoredRow) (decided passed : ℕ) (waits : List 
 
   -- that of an entry's key, among the entries
   newest_entry : (place : ℕ) (row : StoredRow) (key : List ℕ) → slice_get entries place ≡ Some row → row.key ≡ key → newest_row entries key ≡ Some row
-  newest_entry place row key there same = newest_rising entries rises key ∙ ap (λ k. row_with k entries) (sym same) ∙ find_at entries place row rises there
+  newest_entry place row key there same = cc (newest_rising entries rises key, find_at entries place row rises there)
 
   -- a row waits for no key that is decided
   waits_for : (key : List ℕ) (row : StoredRow) → waits key ≡ Some row → (has_row_with key (take decided all) ≡ false) × (newest_row hashed key ≡ Some row)
-  waits_for key row is = cond_some (has_row_with key (take decided all)) (newest_row hashed key) row (sym (so_far.waiting key) ∙ is)
+  waits_for key row is = cond_some _ _ row (sym (so_far.waiting key) ∙ is)
 
   -- an entry that is not passed over has a key that is not decided
   entry_waits : (place : ℕ) (key : List ℕ) → passed ≤ place → place < length entries → key_at entries place ≡ key → has_row_with key (take decided all) ≡ false
-  entry_waits place key past inside at = ap (λ k. has_row_with k (take decided all)) (sym at) ∙ so_far.passing place inside ∙ le-ltb place passed past
+  entry_waits place key past inside at = cc (so_far.passing place inside, le-ltb place passed past)
 
   -- the next entry is above each key that is decided
   pub next_above : (key : List ℕ) → has_row_with key (take decided all) ≡ true → passed < length entries → slice_cmp nat_cmp key (key_at entries passed) ≡ Less
@@ -186,11 +181,11 @@ module _ (entries hashed : List StoredRow) (decided passed : ℕ) (waits : List 
   -- the lowest key has a row, and is not decided
   lowest_waits : (key : List ℕ) → IsLowest entries passed waits key → ((row : StoredRow) × (row_with key all ≡ Some row)) × (has_row_with key (take decided all) ≡ false)
   lowest_waits key lowest = elim lowest.is [
-    | inl found ↦ let it = waits_for key found.0 found.1 in ((found.0, newest_of key ∙ or_first _ _ found.0 it.1), it.0)
+    | inl found ↦ let it = waits_for key _ found.1 in ((found.0, newest_of key ∙ or_first _ _ _ it.1), it.0)
     | inr next ↦
-        let row = row_inside entries passed next.0 in
+        let row = row_inside _ passed next.0 in
         let here = newest_entry passed row.0 key row.1 (sym (key_of_row entries passed row.0 row.1) ∙ next.1) in
-        let some = or_some (newest_row hashed key) row.0 in
+        let some = or_some _ row.0 in
         ((some.0, newest_of key ∙ ap (option_or (newest_row hashed key)) here ∙ some.1), entry_waits passed key (omega arith) next.0 next.1)
   ]
 
@@ -211,20 +206,17 @@ module _ (entries hashed : List StoredRow) (decided passed : ℕ) (waits : List 
             | inl same ↦ lowest.entry (omega arith) (ap (λ p. slice_cmp nat_cmp (key_at entries p) key) same ∙ ap (λ k. slice_cmp nat_cmp k key) its ∙ less)
             | inr other ↦
                 let under : slice_cmp nat_cmp (key_at entries passed) row.key ≡ Less =
-                ap (slice_cmp nat_cmp (key_at entries passed)) (sym its) ∙ rises_at entries rises passed place (omega arith) inside in
+                ap (slice_cmp nat_cmp (key_at entries passed)) (sym its) ∙ rises_at _ rises passed place (omega arith) inside in
                 lowest.entry (omega arith) (nat_list_cmp_total.trans (key_at entries passed) row.key key under less)
           ]
 
       go : has_row_with row.key (take decided all) ≡ false → (o : Option StoredRow) → newest_row hashed row.key ≡ o → option_or o (newest_row entries row.key) ≡ Some row → ⊥
       go apart (Some other) is found = lowest.rows row.key other (so_far.waiting row.key ∙ cond-false _ _ _ apart ∙ is) less
-      go apart None is found = let at = place_found row.key entries row (sym (newest_rising entries rises row.key) ∙ found) in behind at.0 at.1 apart
+      go apart None is found = let at = place_found _ _ row (sym (newest_rising _ rises _) ∙ found) in behind at.0 at.1 apart
 
   -- it is that of the next row
   pub lowest_next : (key : List ℕ) → IsLowest entries passed waits key → (row : StoredRow) × (slice_get all decided ≡ Some row) × (row.key ≡ key)
-  lowest_next key lowest =
-      let it = lowest_waits key lowest in
-      let next = next_at all decided key it.0.0 (rises_newest (entries ++ hashed)) it.0.1 it.1 in
-      (next.0, next.1, elim next.2 [ inl same ↦ same | inr less ↦ absurd (not_lower key next.0 lowest next.1 less) ])
+  lowest_next key lowest = search (arith, lowest_waits, next_at, rises_newest, not_lower)
 
   -- which is the row that waits
   pub next_waits : (row found : StoredRow) → slice_get all decided ≡ Some row → waits row.key ≡ Some found → row ≡ found
@@ -247,15 +239,12 @@ module _ (entries hashed : List StoredRow) (decided passed : ℕ) (waits : List 
   waits_after : (row : StoredRow) (after : List ℕ → Option StoredRow) → slice_get all decided ≡ Some row → ((key : List ℕ) → after key ≡ cond (bytes_eq row.key key) None (waits key))
       → (key : List ℕ) → after key ≡ cond (has_row_with key (take (decided + 1) all)) None (newest_row hashed key)
   waits_after row after there gone key =
-      gone key
-      ∙ ap (cond (bytes_eq row.key key) None) (so_far.waiting key)
-      ∙ cond_twice (has_row_with key (take decided all)) (bytes_eq row.key key) (newest_row hashed key)
-      ∙ ap (λ b. cond b None (newest_row hashed key)) (sym (has_more all decided row key there))
+      cc (gone key, so_far.waiting key, cond_twice (has_row_with key (take decided all)) (bytes_eq row.key key) (newest_row hashed key), has_more all decided row key there)
 
   -- an entry's key
   passes_at : (row : StoredRow) (place : ℕ) → slice_get all decided ≡ Some row → place < length entries
       → has_row_with (key_at entries place) (take (decided + 1) all) ≡ (nat_lt place passed || bytes_eq row.key (key_at entries place))
-  passes_at row place there inside = has_more all decided row (key_at entries place) there ∙ ap (λ b. b || bytes_eq row.key (key_at entries place)) (so_far.passing place inside)
+  passes_at row place there inside = cc (has_more all decided row (key_at entries place) there, so_far.passing place inside)
 
   -- so many entries and one more have decided keys, if the next entry has the key
   pub decided_with : (row : StoredRow) (after : List ℕ → Option StoredRow) → slice_get all decided ≡ Some row → passed < length entries → key_at entries passed ≡ row.key
@@ -265,13 +254,15 @@ module _ (entries hashed : List StoredRow) (decided passed : ℕ) (waits : List 
     passing = λ place inside. passes_at row place there inside ∙ elim (cases_order place passed) [
       | inl same ↦
           let last : (b : Bool) → (b || true) ≡ true = elim [ true ↦ refl | false ↦ refl ] in
-          ap (λ b. nat_lt place passed || b) (key_itself row.key (key_at entries place) (sym (ap (key_at entries) same ∙ at)))
+          ap (λ b. nat_lt place passed || b) (key_itself _ _ (sym (ap (key_at entries) same ∙ at)))
           ∙ last (nat_lt place passed) ∙ sym (lt-ltb place (passed + 1) (omega arith))
       | inr (inl lower) ↦ ap (λ b. b || bytes_eq row.key (key_at entries place)) (lt-ltb place passed lower) ∙ sym (lt-ltb place (passed + 1) (omega arith))
       | inr (inr higher) ↦
-          ap (λ b. b || bytes_eq row.key (key_at entries place)) (le-ltb place passed (omega arith))
-          ∙ key_below row.key (key_at entries place) (ap (λ k. slice_cmp nat_cmp k (key_at entries place)) (sym at) ∙ rises_at entries rises passed place higher inside)
-          ∙ sym (le-ltb place (passed + 1) (omega arith))
+          cc (
+            le-ltb place passed (omega arith),
+            key_below row.key (key_at entries place) (ap (λ k. slice_cmp nat_cmp k (key_at entries place)) (sym at) ∙ rises_at entries rises passed place higher inside),
+            le-ltb place (passed + 1) (omega arith),
+          )
     ];
   }
 
@@ -318,16 +309,16 @@ module _ (entries hashed : List StoredRow) (decided passed : ℕ) (waits : List 
   -- and the other way round
   pub none_waits : length all ≤ decided → ((key : List ℕ) → waits key ≡ None) × (length entries ≤ passed)
   none_waits most = (
-    λ key. so_far.waiting key ∙ ap (λ l. cond (has_row_with key l) None (newest_row hashed key)) (take_all decided all most) ∙ all_known key (has_row_with key all) refl,
+    λ key. cc (so_far.waiting key, take_all decided all most, all_known key (has_row_with key all) refl),
     elim (cases_lt passed (length entries)) [
       | inr past ↦ past
       | inl below ↦
-          let row = row_inside entries passed below in
+          let row = row_inside _ passed below in
           let key : List ℕ = key_at entries passed in
           let here = newest_entry passed row.0 key row.1 (sym (key_of_row entries passed row.0 row.1)) in
-          let some = or_some (newest_row hashed key) row.0 in
+          let some = or_some _ row.0 in
           let has : has_row_with key all ≡ true = found_where_has key all ∙ ap is_some (newest_of key ∙ ap (option_or (newest_row hashed key)) here ∙ some.1) in
-          let lacks : has_row_with key all ≡ false = ap (has_row_with key) (sym (take_all decided all most)) ∙ so_far.passing passed below ∙ le-ltb passed passed (omega arith) in
+          let lacks : has_row_with key all ≡ false = cc (take_all decided all most, so_far.passing passed below, le-ltb passed passed (omega arith)) in
           absurd (cc)
     ],
   )
@@ -336,27 +327,17 @@ module _ (entries hashed : List StoredRow) (decided passed : ℕ) (waits : List 
       all_known key true has = cond-true _ _ _ has
       all_known key false lacks =
           let none : (o : Option StoredRow) → is_some o ≡ false → o ≡ None = elim [ None ↦ λ e. refl | Some r ↦ λ e. absurd (cc) ] in
-          cond-false _ _ _ lacks ∙ or_nothing (newest_row hashed key) (newest_row entries key) (sym (newest_of key) ∙ none (row_with key all) (sym (found_where_has key all) ∙ lacks))
+          cond-false _ _ _ lacks ∙ or_nothing _ _ (sym (newest_of key) ∙ none (row_with key all) (sym (found_where_has key all) ∙ lacks))
 
 -- ---- what is written
 
 -- of a beginning and more, a beginning
 pub take_both : (most : ℕ) (xs ys : List StoredRow) → take most (take most xs ++ ys) ≡ take most (xs ++ ys)
-take_both most xs ys = elim (cases_lt (length xs) most) [
-  | inl below ↦ ap (λ l. take most (l ++ ys)) (take_all most xs (omega arith))
-  | inr over ↦
-      let long = length-take-le most xs over in
-      take-append-le most (take most xs) ys (omega (arith, long)) ∙ take_all most (take most xs) (omega (arith, long)) ∙ sym (take-append-le most xs ys over)
-]
+take_both most xs ys = search (arith, cases_lt, take_all, length-take-le, take-append-le)
 
 -- one row more that is due, or not
 pub due_more : (rows : List StoredRow) (count most : ℕ) (row : StoredRow) (before due after : List StoredRow) → slice_get rows count ≡ Some row
     → before ≡ take most (filter is_put_row (take count rows))
     → due ≡ filter is_put_row (row ∷ []) → after ≡ take most (before ++ due) → after ≡ take most (filter is_put_row (take (count + 1) rows))
 due_more rows count most row before due after there is more made =
-    made
-    ∙ ap (λ l. take most (l ++ due)) is
-    ∙ ap (λ l. take most (take most (filter is_put_row (take count rows)) ++ l)) more
-    ∙ take_both most (filter is_put_row (take count rows)) (filter is_put_row (row ∷ []))
-    ∙ ap (take most) (sym (filter-append is_put_row (take count rows) (row ∷ [])))
-    ∙ ap (λ l. take most (filter is_put_row l)) (sym (take_one rows count row there))
+    cc (is, take_both most (filter is_put_row (take count rows)) (filter is_put_row (row ∷ [])), filter-append is_put_row (take count rows) (row ∷ []), take_one rows count row there)

@@ -1,37 +1,25 @@
 -- What a change on another part of the disk leaves of a merge.
-use Rattle.std.proofs.Common.{◌≡◌, ◌≢◌, ℕ, suc, ◌+◌, ◌-◌, ◌*◌, ◌<◌, ◌≤◌, ◌⊎◌, cond, IsTrue, List, [], ◌∷◌, ◌++◌, filter, flat_map, length, drop, map, take}
-use Rattle.std.proofs.Common.{get_or, Option, Some, None, option_map, inl, inr, refl, sym, subst, ap, ◌∙◌, arith}
-use Rattle.std.specs.List.{All, range_with_len}
-use Rattle.std.proofs.lemmas.Bool.{cases_lt, cases_order}
+use Rattle.silt_merge.proofs.Common.{◌≡◌, ◌≢◌, ℕ, suc, ◌+◌, ◌-◌, ◌*◌, ◌<◌, ◌≤◌, ◌⊎◌, IsTrue, List, [], ◌∷◌, ◌++◌, filter, length, map, take, get_or, Option, Some, None, option_map, inl, inr}
+use Rattle.silt_merge.proofs.Common.{refl, sym, subst, ap, ◌∙◌, arith, cases_lt, length-map, size, Shape, entry_len, sorted_at, kind_byte, slot_row, hash_part, HashState, all_before}
+use Rattle.silt_merge.proofs.Common.{StoredRow, entries_bytes, is_put_row, keys_of, sorted_rows, SortedState, AreSound, source_row, entries_in, has_row_with, newest_rows, regions_of}
+use Rattle.silt_merge.proofs.Common.{IsHeldMerge, MergeState, source_at, Source, IsBuildingOf, Holds}
+use Rattle.std.specs.List.{All}
+use Rattle.std.proofs.lemmas.Bool.{cases_order}
 use Rattle.std.proofs.Math.Seq.{drop-append-add}
-use Rattle.std.proofs.lemmas.List.{get_or-map, length-append, length-map, take-map}
-use Rattle.silt_disk.specs.Disk.{LiesOutside, Torn, size}
-use Rattle.silt_disk.specs.Layout.{Shape, device_size, entries_len, entry_len, hash_at, slots_len, sorted_at}
+use Rattle.std.proofs.lemmas.List.{get_or-map, length-append, take-map}
+use Rattle.silt_disk.specs.Disk.{LiesOutside, Torn}
+use Rattle.silt_disk.specs.Layout.{device_size, entries_len, hash_at, slots_len}
 use Rattle.silt_disk.proofs.Regions.{regions_apart}
-use Rattle.silt_hash_store.proofs.Elsewhere.{slot_outside}
-use Rattle.silt_frame.specs.Frame.{kind_byte}
-use Rattle.silt_hash_store.specs.Slots.{rows_before, slot_row, hash_part}
-use Rattle.silt_hash_store.specs.State.{HashState}
-use Rattle.silt_hash_store.proofs.Slotting.{all_before}
-use Rattle.silt_hash_store.proofs.Elsewhere.{slots_inside}
-use Rattle.silt_event.specs.Rows.{newest_row}
-use Rattle.silt_hash_store.specs.Findings.{hash_findings}
-use Rattle.silt_log.specs.Parts.{known_rows, oldest_first, Part}
+use Rattle.silt_hash_store.proofs.Elsewhere.{slot_outside, slots_inside}
+use Rattle.silt_hash_store.specs.Slots.{rows_before}
 use Rattle.silt_sorted_store.specs.Findings.{sorted_findings}
-use Rattle.silt_frame.specs.Rows.{StoredRow, entries_bytes, has_known_kind, is_put_row, keys_of, rows_bytes}
-use Rattle.silt_sorted_store.specs.State.{sorted_rows, IsHeldSorted, SortedState}
+use Rattle.silt_sorted_store.specs.State.{IsHeldSorted}
 use Rattle.silt_log.proofs.Bodies.{map_range_same}
 use Rattle.silt_merge.specs.Laws.{MergedElsewhereLaw, OldestStoresLaw}
 use Rattle.silt_sorted_store.proofs.Elsewhere.{entries_inside, entries_outside}
-use Rattle.silt_merge.specs.Merging.{AreSound, IsGatheredIn, IsMergedIn, decided_rows, gathered_rows, source_row}
-use Rattle.silt_merge.specs.Pieces.{AreEntries}
-use Rattle.silt_merge.specs.Rows.{entries_in, has_row_with, rows_of_hashes, key_count, newest_rows, regions_of, sources}
-use Rattle.silt_merge.specs.State.{IsHeldMerge, MergeState, source_at}
-use Rattle.silt_merge.specs.declared.source.Source.{Source}
-use Rattle.silt_trie.specs.Building.{IsBuildingOf}
-use Rattle.sha1.specs.Sha1.{Holds}
+use Rattle.silt_merge.specs.Merging.{IsGatheredIn, IsMergedIn, decided_rows, gathered_rows}
+use Rattle.silt_merge.specs.Rows.{key_count, sources}
 use Rattle.silt_merge.proofs.Pieces.{slots_same}
-use Rattle.silt_hasher.specs.Taking.{HasTaken}
 
 -- there are as many regions as stores
 pub regions_count : (stores : List HashState) → length (regions_of stores) ≡ length stores
@@ -53,9 +41,7 @@ module _ (s : Shape) (old new : List ℕ) where
   -- all rows of each store
   part_same : (region : ℕ) → ((slot : ℕ) → slot < 4 * s.buckets → slot_row s region new slot ≡ slot_row s region old slot) → hash_part s new region ≡ hash_part s old region
   unfolding rows_before
-  part_same region rows =
-      ap (λ l. let p : Part = record { region = region; rows = l } in p)
-      (all_before s region new ∙ map_range_same (slot_row s region new) (slot_row s region old) 0 (4 * s.buckets) (λ slot low high. rows slot (omega arith)) ∙ sym (all_before s region old))
+  part_same region rows = search (arith, all_before, map_range_same)
 
   -- those of all stores
   parts_same : (regions : List ℕ) → ((store slot : ℕ) → store < length regions → slot < 4 * s.buckets → slot_row s (get_or regions store 0) new slot ≡ slot_row s (get_or regions store 0) old slot)
@@ -70,36 +56,26 @@ module _ (s : Shape) (old new : List ℕ) where
   first_same : (count : ℕ) (regions : List ℕ) → ((store slot : ℕ) → store < length regions → slot < 4 * s.buckets
       → slot_row s (get_or regions store 0) new slot ≡ slot_row s (get_or regions store 0) old slot)
       → map (hash_part s new) (take count regions) ≡ map (hash_part s old) (take count regions)
-  first_same count regions rows = sym (take-map (hash_part s new) count regions) ∙ ap (take count) (parts_same regions rows) ∙ take-map (hash_part s old) count regions
+  first_same count regions rows = sym (take-map (hash_part s new) count regions) ∙ ap (take count) (parts_same _ rows) ∙ take-map (hash_part s old) count regions
 
   -- the rows that are gathered
   gathered_same : (regions : List ℕ) (store slot : ℕ)
       → ((store slot : ℕ) → store < length regions → slot < 4 * s.buckets → slot_row s (get_or regions store 0) new slot ≡ slot_row s (get_or regions store 0) old slot)
       → (store < length regions) ⊎ (slot ≡ 0) → slot ≤ 4 * s.buckets → gathered_rows s new regions store slot ≡ gathered_rows s old regions store slot
   unfolding gathered_rows rows_before
-  gathered_same regions store slot rows some most =
-      let region : ℕ = get_or regions store 0 in
-      let own : map (slot_row s region new) (range_with_len 0 slot) ≡ map (slot_row s region old) (range_with_len 0 slot) =
-      map_range_same (slot_row s region new) (slot_row s region old) 0 slot (λ place low high. elim some [
-        | inl below ↦ rows store place below (omega arith)
-        | inr none ↦ absurd (omega arith)
-      ]) in
-      ap (λ l. filter has_known_kind l ++ rows_of_hashes s new (take store regions)) own
-      ∙ ap (λ ps. filter has_known_kind (map (slot_row s region old) (range_with_len 0 slot)) ++ oldest_first (map known_rows ps)) (first_same store regions rows)
+  gathered_same regions store slot rows some most = search (arith, map_range_same, first_same)
 
 module _ (old new : List ℕ) (stores : List HashState) (sorted : SortedState) (same : SameSources sorted.shape (regions_of stores) sorted old new) where
   -- all rows that are merged
   pub sources_same : sources new stores sorted ≡ sources old stores sorted
   unfolding sources
-  sources_same =
-      ap (λ l. l ++ rows_of_hashes sorted.shape new (regions_of stores)) same.entries
-      ∙ ap (λ ps. entries_in old sorted ++ oldest_first (map known_rows ps)) (parts_same sorted.shape old new (regions_of stores) same.rows)
+  sources_same = cc (same.entries, parts_same sorted.shape old new (regions_of stores) same.rows)
 
   -- there was no finding if there is none
   pub sound_before : AreSound new stores sorted → AreSound old stores sorted
   sound_before sound = record {
     there = sound.there;
-    hashes = ap (flat_map (hash_findings sorted.shape)) (sym (parts_same sorted.shape old new (regions_of stores) same.rows)) ∙ sound.hashes;
+    hashes = cc (parts_same sorted.shape old new (regions_of stores) same.rows, sound.hashes);
     entries = ap sorted_findings (sym same.entries) ∙ sound.entries;
   }
 
@@ -121,28 +97,17 @@ module _ (old new : List ℕ) (stores : List HashState) (sorted : SortedState) (
         gathered = record {
           most = omega (arith, is.most, ap key_count sources_same);
           waits = λ key.
-              row_of_source key (source_at merge.waiting key) refl
-              ∙ is.waits key
-              ∙ ap (λ l. cond (has_row_with key (decided_rows old stores sorted merge.decided)) None (newest_row l key))
-              (sym (gathered_same sorted.shape old new (regions_of stores) merge.store merge.slot same.rows some most))
-              ∙ ap (λ l. cond (has_row_with key l) None (newest_row (gathered_rows sorted.shape new (regions_of stores) merge.store merge.slot) key)) (sym decided);
+              cc (row_of_source key (source_at merge.waiting key) refl, is.waits key, gathered_same sorted.shape old new (regions_of stores) merge.store merge.slot same.rows some most);
           last = λ key same_key. ap (has_row_with key.0) decided ∙ is.last key same_key;
-          slots = λ below.
-              slots_same sorted.shape (get_or (regions_of stores) merge.store 0) old new merge.slot merge.slots
-              (λ slot inside. same.rows merge.store slot (omega (arith, below, regions_count stores)) inside) (is.slots below);
-          ahead = subst (λ l. AreEntries l merge.passed merge.ahead) (sym same.entries) is.ahead;
-          passes = λ place below.
-              ap (λ l. has_row_with (get_or (keys_of l) place []) (decided_rows new stores sorted merge.decided)) same.entries
-              ∙ ap (has_row_with (get_or (keys_of (entries_in old sorted)) place [])) decided
-              ∙ is.passes place below;
-          slots_hashed = λ below.
-              subst (λ l. HasTaken merge.input (rows_bytes l))
-              (sym (before_same sorted.shape old new (get_or (regions_of stores) merge.store 0) merge.slot
-              (λ slot inside. same.rows merge.store slot (omega (arith, below, regions_count stores)) (omega (arith, inside, most)))))
-              (is.slots_hashed below);
-          entries_hashed = λ past. subst (λ l. HasTaken merge.input (entries_bytes (take merge.passed l))) (sym same.entries) (is.entries_hashed past);
+          slots = λ below. slots_same sorted.shape (get_or (regions_of stores) merge.store 0) old new merge.slot merge.slots (λ slot inside. same.rows
+              merge.store slot (omega (arith, below, regions_count stores)) inside) (is.slots below);
+          ahead = rw (← same.entries) at is.ahead;
+          passes = λ place below. cc (same.entries, is.passes place below);
+          slots_hashed = λ below. rw (← (before_same sorted.shape old new (get_or (regions_of stores) merge.store 0) merge.slot (λ slot inside. same.rows
+              merge.store slot (omega (arith, below, regions_count stores)) (omega (arith, inside, most))))) at (is.slots_hashed below);
+          entries_hashed = λ past. rw (← same.entries) at (is.entries_hashed past);
         };
-        writes = writes ∙ ap (λ l. take merge.shape.sorted_capacity (filter is_put_row l)) (sym decided);
+        writes = cc;
         index = index;
       }
     where
@@ -186,33 +151,22 @@ pub same_beside : (stores : List HashState) (sorted : SortedState) (region : ℕ
 same_beside stores sorted region old new fits there held apart below torn =
     let s : Shape = sorted.shape in
     let regions = regions_apart s in
-    same_outside stores sorted old new (sorted_at s region) (s.sorted_capacity * entry_len s) fits there held
-    (elim (cases_order sorted.region region) [
+    same_outside stores sorted old new _ _ fits there held (elim (cases_order sorted.region region) [
       | inl same ↦ absurd (apart same)
       | inr (inl lower) ↦ inr (regions.sorted sorted.region region lower)
       | inr (inr higher) ↦ inl (regions.sorted region sorted.region higher)
-    ])
-    (λ store blank within. inr (
-    let slots = regions.hashes (get_or stores store blank).region s.hashes (there store blank within) in
-    omega (arith, slots, regions.hash_end region)
-    ))
-    torn
+    ]) (λ store blank within. inr (
+    omega (arith, regions.hashes (get_or stores store blank).region s.hashes (there store blank within), regions.hash_end region)
+    )) torn
 
 -- a source of a merge, as the number of a region and a slot
 pub source_inside : (stores : List HashState) (sorted : SortedState) (merge : MergeState) → IsHeldMerge merge → sorted.shape ≡ merge.shape → length stores ≡ merge.stores
     → (key : List ℕ) (source : Source) → source_at merge.waiting key ≡ Some source → (source.store < length (regions_of stores)) × (source.slot < 4 * sorted.shape.buckets)
-source_inside stores sorted merge held shape counted key source is =
-    let inside = held.inside key source is in (
-      omega (arith, inside.store, regions_count stores, counted),
-      subst (λ (s : Shape). source.slot < 4 * s.buckets) (sym shape) inside.slot,
-    )
+source_inside stores sorted merge held shape counted key source is = search (arith, regions_count)
 
 -- the next store of a merge
 pub store_next : (stores : List HashState) (merge : MergeState) → IsHeldMerge merge → length stores ≡ merge.stores → (merge.store < length (regions_of stores)) ⊎ (merge.slot ≡ 0)
-store_next stores merge held counted = elim (cases_lt merge.store merge.stores) [
-  | inl below ↦ inl (omega (arith, regions_count stores))
-  | inr past ↦ inr (held.ended (omega (arith, held.store)))
-]
+store_next stores merge held counted = search (arith, cases_lt, regions_count)
 
 -- a merge has gathered and written what it had
 pub merged_elsewhere : MergedElsewhereLaw
@@ -235,13 +189,12 @@ merged_elsewhere stores sorted merge old new at count held_sorted held fits own 
     kept : IsTrue new.honest → sorted_rows merge.shape merge.region merge.written new.shown ≡ sorted_rows merge.shape merge.region merge.written old.shown
     kept honest =
         let was : IsTrue old.honest = sym changes.honest ∙ honest in
-        let ends = entries_inside sorted.shape merge.region held.there in
         entries_outside merge.shape merge.region merge.written at count old.shown new.shown
-        (subst (λ (s : Shape). sorted_at s merge.region + s.sorted_capacity * entry_len s ≤ size old) is.shape (omega (arith, ends))) held.room
+        (subst (λ (s : Shape). sorted_at s merge.region + s.sorted_capacity * entry_len s ≤ size old) is.shape (omega (arith, entries_inside sorted.shape merge.region held.there))) held.room
         (subst (λ (s : Shape). LiesOutside (sorted_at s merge.region) (entries_len s) at count) is.shape own) (changes.shown was)
 
 -- the oldest stores, after newer ones came
 pub oldest_stores_law : OldestStoresLaw
 oldest_stores_law newer stores count most =
     let before : length (newer ++ stores) - count ≡ length newer + (length stores - count) = omega (arith, most, length-append newer stores) in
-    ap (λ n. drop n (newer ++ stores)) before ∙ drop-append-add newer stores (length stores - count)
+    cc (drop-append-add newer stores (length stores - count))

@@ -1,37 +1,28 @@
 -- What the decision of a key leaves, and what a merge that is done has written.
-use Rattle.std.proofs.Common.{◌≡◌, ◌≢◌, ℕ, ◌+◌, ◌*◌, ◌<◌, ◌≤◌, ◌&&◌, ◌==◌, nat_lt, nat_le, Bool, true, false, not, ◌||◌, cond, IsTrue, List, [], ◌∷◌, ◌++◌}
-use Rattle.std.proofs.Common.{filter, length, take, get_or, slice_get, Option, Some, None, IsSomeAnd, option_map, inl, inr, refl, sym, subst, ap, ◌∙◌, arith}
-use Rattle.std.proofs.Common.{is_some, bytes_eq, Ordering, is_lt, nat_cmp, Less, Equal, Greater}
-use Rattle.std.proofs.lemmas.Bool.{and_from, and_parts, cases_lt, cond-true, cond-false, eq-eqb, eqb-true, le-leb, leb-true, ltb-false, ltb-true, ne_eqb}
-use Rattle.std.proofs.lemmas.Map.Text.{is_eq-slice_cmp}
-use Rattle.std.proofs.lemmas.List.{length-map, take_all}
-use Rattle.std.proofs.lemmas.Option.{slice_get_within}
-use Rattle.silt_disk.specs.Disk.{ChangesWithin, Content, Torn, size}
-use Rattle.silt_disk.specs.Layout.{Shape, device_size, entry_len, sorted_at}
+use Rattle.silt_merge.proofs.Common.{◌≡◌, ◌≢◌, ℕ, ◌+◌, ◌*◌, ◌<◌, ◌≤◌, ◌&&◌, nat_lt, Bool, true, false, ◌||◌, cond, IsTrue, List, [], ◌∷◌, ◌++◌, filter, length, take, get_or, slice_get}
+use Rattle.silt_merge.proofs.Common.{Option, Some, None, option_map, inl, inr, refl, sym, subst, ap, ◌∙◌, arith, bytes_eq, Ordering, Less, Equal, Greater, and_parts, cases_lt, cond-true}
+use Rattle.silt_merge.proofs.Common.{cond-false, eq-eqb, eqb-true, ltb-false, ltb-true, is_eq-slice_cmp, length-map, slice_get_within, Content, size, Shape, entry_len, sorted_at, kind_byte}
+use Rattle.silt_merge.proofs.Common.{Place, Key, slot_row, HashState, exact_bytes, slice_cmp, sorted_rows, SortedState, entries_of, StoredRow, entries_bytes, entry_row, is_put_row, keys_of}
+use Rattle.silt_merge.proofs.Common.{IsNextEntry, ReadsRow, due_rows, is_written, AreSound, HasMerged, source_row, AreEntries, AreSlots, parts_after, entries_in, has_row_with}
+use Rattle.silt_merge.proofs.Common.{rows_of_hashes, newest_rows, regions_of, IsHeldMerge, MergeState, hashed_after, is_behind, passed_after, source_at, written_after, BuilderState}
+use Rattle.silt_merge.proofs.Common.{IsBuildingOf, is_above, Choice, Source, key_of_row, key_at, Holds, Sha1, HasTaken, Taken}
+use Rattle.std.proofs.Common.{◌==◌, nat_le, not, IsSomeAnd, is_some, is_lt, nat_cmp}
+use Rattle.std.proofs.lemmas.Bool.{and_from, le-leb, leb-true, ne_eqb}
+use Rattle.std.proofs.lemmas.List.{take_all}
+use Rattle.silt_disk.specs.Disk.{ChangesWithin}
+use Rattle.silt_disk.specs.Layout.{device_size}
 use Rattle.silt_disk.proofs.Regions.{next_region}
-use Rattle.silt_frame.specs.Frame.{is_put, kind_byte}
-use Rattle.silt_event.specs.declared.place.Place.{Place}
-use Rattle.silt_frame.specs.declared.key.Key.{Key}
+use Rattle.silt_frame.specs.Frame.{is_put}
 use Rattle.silt_frame.specs.declared.key.Kind.{Kind}
 use Rattle.silt_frame.specs.declared.key.Kind.TheVariants.{Put, Delete}
-use Rattle.silt_hash_store.specs.Slots.{slot_row}
-use Rattle.silt_hash_store.specs.State.{HashState}
-use Rattle.std.proofs.lemmas.Map.Lookups.{exact_bytes}
-use Rattle.std.specs.Cmp.Lexicographic.{slice_cmp}
-use Rattle.silt_event.specs.Rows.{newest_row}
 use Rattle.silt_sorted_store.specs.Findings.{sorted_findings}
-use Rattle.silt_sorted_store.specs.State.{sorted_rows, IsHeldSorted, SortedState, entries_of}
-use Rattle.silt_frame.specs.Rows.{StoredRow, entries_bytes, entry_row, is_put_row, keys_of}
-use Rattle.silt_merge.specs.Choice.{IsFirstWaiting, IsNextEntry, IsOffered, ReadsRow, choice_of, choice_puts}
-use Rattle.silt_sorted_store.specs.Region.{due_rows, is_written}
-use Rattle.silt_merge.specs.Merging.{AreSound, HasMerged, IsGatheredIn, IsMergeOf, Seals, source_row}
-use Rattle.silt_merge.specs.Pieces.{AreEntries, AreSlots, parts_after}
-use Rattle.silt_merge.specs.Rows.{entries_in, has_row_with, rows_of_hashes, key_count, merged_rows, newest_rows, regions_of, sources}
-use Rattle.silt_merge.specs.State.{IsHeldMerge, IsInside, MergeState, hashed_after, is_behind, is_done, keys_after, passed_after, source_at, steps_for, steps_of, written_after}
-use Rattle.silt_trie.specs.Building.{BuilderState, IsBuildingOf, IsTrieOf, is_above}
+use Rattle.silt_sorted_store.specs.State.{IsHeldSorted}
+use Rattle.silt_merge.specs.Choice.{IsFirstWaiting, IsOffered, choice_of, choice_puts}
+use Rattle.silt_merge.specs.Merging.{IsGatheredIn, IsMergeOf, Seals}
+use Rattle.silt_merge.specs.Rows.{key_count, merged_rows, sources}
+use Rattle.silt_merge.specs.State.{IsInside, is_done, keys_after, steps_for, steps_of}
+use Rattle.silt_trie.specs.Building.{IsTrieOf}
 use Rattle.silt_trie.specs.Marks.{MarkedCode}
-use Rattle.silt_merge.specs.declared.choice.Choice.{Choice}
-use Rattle.silt_merge.specs.declared.source.Source.{Source}
 use Rattle.silt_merge.proofs.Choosing.{IsChosen, chosen}
 use Rattle.silt_merge.proofs.Deciding.{IsDecided, all_decided, cond_some, decided_with, decided_without, due_more, has_more, lowest_next, next_above, next_enters, next_waits, none_waits}
 use Rattle.silt_merge.proofs.Elsewhere.{SameSources, merged_same, regions_count, same_beside, sound_before, source_inside}
@@ -40,11 +31,8 @@ use Rattle.silt_merge.proofs.Comparing.{entry_bytes}
 use Rattle.silt_merge.proofs.Keys.{above_index, bytes_written, count_written, keys_written, puts_row, rows_due}
 use Rattle.silt_merge.proofs.Making.{grown}
 use Rattle.silt_merge.proofs.Newest.{Rises, key_itself, merged_law, rises_from, rises_newest, turned}
-use Rattle.silt_sorted_store.proofs.Entries.{entry_count, key_of_row}
-use Rattle.silt_sorted_store.proofs.Rising.{key_at, lower_below}
-use Rattle.sha1.specs.Sha1.{Holds}
-use Rattle.sha1.specs.declared.Sha1.{Sha1}
-use Rattle.silt_hasher.specs.Taking.{HasTaken, Taken}
+use Rattle.silt_sorted_store.proofs.Entries.{entry_count}
+use Rattle.silt_sorted_store.proofs.Rising.{lower_below}
 
 -- entries in which nothing is found rise
 rises_of : (rows : List StoredRow) → sorted_findings rows ≡ [] → Rises rows
@@ -67,11 +55,7 @@ module _ (image : List ℕ) (stores : List HashState) (sorted : SortedState) whe
   pub decided_of : (merge : MergeState) → length (regions_of stores) ≤ merge.store → merge.slot ≡ 0 → IsGatheredIn image stores sorted merge
       → IsDecided entries hashed merge.decided merge.passed (waits_in merge.waiting)
   unfolding sources
-  decided_of merge past none is = record {
-    waiting = λ key. is.waits key ∙ ap (λ l. cond (has_row_with key (take merge.decided (newest_rows (entries ++ hashed)))) None (newest_row l key))
-        (all_gathered sorted.shape image (regions_of stores) merge.store merge.slot past none);
-    passing = λ place inside. is.passes place (omega (arith, entry_count sorted.shape sorted.region sorted.count image));
-  }
+  decided_of merge past none is = search (arith, all_gathered, entry_count)
 
   -- and the other way round
   pub gathered_of : (merge : MergeState) → length (regions_of stores) ≤ merge.store → merge.slot ≡ 0 → merge.decided ≤ length (newest_rows (entries ++ hashed))
@@ -79,18 +63,7 @@ module _ (image : List ℕ) (stores : List HashState) (sorted : SortedState) whe
       → AreEntries entries merge.passed merge.ahead → HasTaken merge.input (entries_bytes (take merge.passed entries))
       → IsDecided entries hashed merge.decided merge.passed (waits_in merge.waiting) → IsGatheredIn image stores sorted merge
   unfolding sources
-  gathered_of merge past none most last ahead holds is = record {
-    most = most;
-    last = last;
-    slots = λ below. absurd (omega (arith, past, below, regions_count stores));
-    ahead = ahead;
-    slots_hashed = λ below. absurd (omega (arith, past, below, regions_count stores));
-    entries_hashed = λ past_all. holds;
-    waits = λ key. is.waiting key
-        ∙ ap (λ l. cond (has_row_with key (take merge.decided (newest_rows (entries ++ hashed)))) None (newest_row l key))
-        (sym (all_gathered sorted.shape image (regions_of stores) merge.store merge.slot past none));
-    passes = λ place inside. is.passing place (omega (arith, entry_count sorted.shape sorted.region sorted.count image));
-  }
+  gathered_of merge past none most last ahead holds is = search (arith, regions_count, all_gathered, entry_count)
 
 -- ---- a key that is decided
 
@@ -98,22 +71,19 @@ module _ (image : List ℕ) (stores : List HashState) (sorted : SortedState) whe
 due_row : (row shown : StoredRow) (source : Source) (key bytes : List ℕ) → row ≡ (let r : StoredRow = record shown { kind = kind_byte source.kind } in r) → row.key ≡ key
     → (is_put source.kind ≡ true → entry_row bytes ≡ (let r : StoredRow = record { kind = 1; key = key; value = shown.value } in r))
     → due_rows (is_put source.kind) bytes ≡ filter is_put_row (row ∷ [])
-due_row row shown source key bytes is same read = go source.kind refl
+due_row row shown source key bytes is same read = go _ refl
   where
     go : (kind : Kind) → source.kind ≡ kind → due_rows (is_put source.kind) bytes ≡ filter is_put_row (row ∷ [])
     go Put it =
         let puts_it : is_put source.kind ≡ true = ap is_put it in
         let kind : row.kind ≡ 1 = ap (λ (r : StoredRow). r.kind) is ∙ ap kind_byte it in
         let value : row.value ≡ shown.value = ap (λ (r : StoredRow). r.value) is in
-        let own : (let r : StoredRow = record { kind = 1; key = key; value = shown.value } in r) ≡ row =
-        ap (λ k. let r : StoredRow = record { kind = 1; key = k; value = shown.value } in r) (sym same)
-        ∙ ap (λ v. let r : StoredRow = record { kind = 1; key = row.key; value = v } in r) (sym value)
-        ∙ ap (λ n. let r : StoredRow = record { kind = n; key = row.key; value = row.value } in r) (sym kind) in
-        ap (λ b. due_rows b bytes) puts_it ∙ ap (λ r. r ∷ []) (read puts_it ∙ own) ∙ sym (cond-true _ _ _ (eq-eqb row.kind 1 kind))
+        let own : (let r : StoredRow = record { kind = 1; key = key; value = shown.value } in r) ≡ row = cc in
+        cc (read puts_it, cond-true _ _ _ (eq-eqb row.kind 1 kind))
     go Delete it =
         let kind : row.kind ≡ 2 = ap (λ (r : StoredRow). r.kind) is ∙ ap kind_byte it in
         let other : is_put_row row ≡ false = ap (λ n. n == 1) kind in
-        ap (λ b. due_rows b bytes) (ap is_put it) ∙ sym (cond-false _ _ _ other)
+        cc (cond-false _ _ _ other)
 
 module _ (image : List ℕ) (stores : List HashState) (sorted : SortedState) (merge : MergeState) (choice : Choice) (bytes : List ℕ) (rises : Rises (entries_in image sorted))
     (so_far : IsDecided (entries_in image sorted) (rows_of_hashes sorted.shape image (regions_of stores)) merge.decided merge.passed (waits_in image stores sorted merge.waiting))
@@ -129,12 +99,12 @@ module _ (image : List ℕ) (stores : List HashState) (sorted : SortedState) (me
 
   -- the key is that of the next newest row
   pub decides : (row : StoredRow) × (slice_get all_rows merge.decided ≡ Some row) × (row.key ≡ choice.key.0)
-  decides = lowest_next old_entries old_hashed merge.decided merge.passed (waits_in image stores sorted merge.waiting) rises so_far choice.key.0 is.lowest
+  decides = lowest_next _ _ _ _ (waits_in image stores sorted merge.waiting) rises so_far _ is.lowest
 
   -- whose entry is written, if it is a put
   pub due_is_row : (after : List ℕ) → ReadsRow sorted.shape image (regions_of stores) choice.key.0 choice.source bytes after
       → due_rows (choice_puts choice.source) after ≡ filter is_put_row (decides.0 ∷ [])
-  due_is_row after read = go choice.source refl read
+  due_is_row after read = go _ refl read
     where
       row : StoredRow
       row = decides.0
@@ -142,48 +112,36 @@ module _ (image : List ℕ) (stores : List HashState) (sorted : SortedState) (me
       go : (o : Option Source) → choice.source ≡ o → ReadsRow sorted.shape image (regions_of stores) choice.key.0 o bytes after
           → due_rows (choice_puts choice.source) after ≡ filter is_put_row (row ∷ [])
       go None none same =
-          let lacks : waits_in image stores sorted merge.waiting row.key ≡ None =
-          ap (waits_in image stores sorted merge.waiting) decides.2 ∙ ap (option_map (source_row sorted.shape image (regions_of stores))) (is.source ∙ none) in
+          let lacks : waits_in image stores sorted merge.waiting row.key ≡ None = cc (decides.2, is.source) in
           let at = (is.entry none).0 in
           let entry_key : (entry_row bytes).key ≡ row.key = sym (key_of_row old_entries merge.passed (entry_row bytes) at) ∙ (is.passes (is.entry none).1).1 ∙ sym decides.2 in
-          let it : row ≡ entry_row bytes = next_enters old_entries old_hashed merge.decided merge.passed (waits_in image stores sorted merge.waiting)
-          rises so_far row (entry_row bytes) decides.1 lacks at entry_key in
-          ap (λ o. due_rows (choice_puts o) after) none ∙ ap (λ b. entry_row b ∷ []) same
-          ∙ sym (ap (λ r. filter is_put_row (r ∷ [])) it)
+          let it : row ≡ entry_row bytes = next_enters _ _ _ _ (waits_in image stores sorted merge.waiting) rises so_far row _ decides.1 lacks at entry_key in
+          cc
       go (Some source) some read_it =
           let shown : StoredRow = slot_row sorted.shape (get_or (regions_of stores) source.store 0) image source.slot in
           let has : waits_in image stores sorted merge.waiting row.key ≡ Some (source_row sorted.shape image (regions_of stores) source) =
-          ap (waits_in image stores sorted merge.waiting) decides.2 ∙ ap (option_map (source_row sorted.shape image (regions_of stores))) (is.source ∙ some) in
-          let it = next_waits old_entries old_hashed merge.decided merge.passed (waits_in image stores sorted merge.waiting) rises
-          so_far row (source_row sorted.shape image (regions_of stores) source) decides.1 has in
-          ap (λ o. due_rows (choice_puts o) after) some ∙ due_row row shown source choice.key.0 after it decides.2 read_it
+          cc (decides.2, is.source) in
+          let it = next_waits _ _ _ _ (waits_in image stores sorted merge.waiting) rises so_far row _ decides.1 has in
+          cc (due_row row shown source choice.key.0 after it decides.2 read_it)
 
   -- one key more is decided
   pub decided_step : (after : List (Key × Source)) → ((key : List ℕ) → source_at after key ≡ cond (bytes_eq choice.key.0 key) None (source_at merge.waiting key))
       → IsDecided old_entries old_hashed (merge.decided + 1) (passed_after choice.passes merge.passed) (waits_in image stores sorted after)
-  decided_step after gone = go choice.passes refl
+  decided_step after gone = go _ refl
     where
       -- the rows that wait
       let_go_row : (key : List ℕ) → waits_in image stores sorted after key ≡ cond (bytes_eq decides.0.key key) None (waits_in image stores sorted merge.waiting key)
-      let_go_row key =
-          let turn : (b : Bool) (o : Option Source) → option_map (source_row sorted.shape image (regions_of stores)) (cond b None o) ≡ cond
-          b None (option_map (source_row sorted.shape image (regions_of stores)) o) =
-          λ b o. elim b as (λ b. option_map (source_row sorted.shape image (regions_of stores)) (cond b None o) ≡ cond b
-          None (option_map (source_row sorted.shape image (regions_of stores)) o)) [ true ↦ refl | false ↦ refl ] in
-          ap (option_map (source_row sorted.shape image (regions_of stores))) (gone key)
-          ∙ turn (bytes_eq choice.key.0 key) (source_at merge.waiting key)
-          ∙ ap (λ k. cond (bytes_eq k key) None (waits_in image stores sorted merge.waiting key)) (sym decides.2)
+      let_go_row key = search (arith, decides)
 
       go : (b : Bool) → choice.passes ≡ b → IsDecided old_entries old_hashed (merge.decided + 1) (passed_after choice.passes merge.passed) (waits_in image stores sorted after)
       go true passes =
           let it = is.passes passes in
-          subst (λ p. IsDecided old_entries old_hashed (merge.decided + 1) p (waits_in image stores sorted after)) (sym (ap (λ b. passed_after b merge.passed) passes))
-          (decided_with old_entries old_hashed merge.decided merge.passed (waits_in image stores sorted merge.waiting) rises so_far
-          decides.0 (waits_in image stores sorted after) decides.1 it.0 (it.1 ∙ sym decides.2) let_go_row)
+          rw (← (ap (λ b. passed_after b merge.passed) passes)) at (decided_with old_entries old_hashed merge.decided merge.passed (waits_in image stores sorted
+          merge.waiting) rises so_far decides.0 (waits_in image stores sorted after) decides.1 it.0 (it.1 ∙ sym decides.2) let_go_row)
       go false stays =
-          subst (λ p. IsDecided old_entries old_hashed (merge.decided + 1) p (waits_in image stores sorted after)) (sym (ap (λ b. passed_after b merge.passed) stays))
-          (decided_without old_entries old_hashed merge.decided merge.passed (waits_in image stores sorted merge.waiting) rises so_far decides.0 (waits_in image stores sorted after) decides.1
-          (λ below. ap (λ k. slice_cmp nat_cmp k (key_at old_entries merge.passed)) decides.2 ∙ is.stays stays below) let_go_row)
+          rw (← (ap (λ b. passed_after b merge.passed) stays)) at (decided_without old_entries old_hashed merge.decided merge.passed (waits_in image stores
+          sorted merge.waiting) rises so_far decides.0 (waits_in image stores sorted after) decides.1 (λ below. ap (λ k. slice_cmp nat_cmp k (key_at old_entries
+          merge.passed)) decides.2 ∙ is.stays stays below) let_go_row)
 
 -- the last key of one key more
 last_decided : (rows : List StoredRow) (decided : ℕ) (row : StoredRow) (own key : Key) → slice_get rows decided ≡ Some row
@@ -191,9 +149,7 @@ last_decided : (rows : List StoredRow) (decided : ℕ) (row : StoredRow) (own ke
 last_decided rows decided row own key there same is =
     let one : own ≡ key = cc in
     let last : (b : Bool) → (b || true) ≡ true = elim [ true ↦ refl | false ↦ refl ] in
-    has_more rows decided row key.0 there
-    ∙ ap (λ b. has_row_with key.0 (take decided rows) || b) (key_itself row.key key.0 (same ∙ ap (λ (k : Key). k.0) one))
-    ∙ last (has_row_with key.0 (take decided rows))
+    cc (has_more rows decided row key.0 there, key_itself row.key key.0 (same ∙ ap (λ (k : Key). k.0) one), last (has_row_with key.0 (take decided rows)))
 
 -- the entries that are ahead after a key are the next ones
 ahead_after : (rows : List StoredRow) (passes : Bool) (passed : ℕ) (ahead : List (List ℕ)) → AreEntries rows passed ahead → AreEntries rows (passed_after passes passed) (parts_after passes ahead)
@@ -256,21 +212,18 @@ merged_with content stores sorted merge slots ahead damaged next_slots next_entr
 pub merged_ahead : (content : Content) (stores : List HashState) (sorted : SortedState) (merge : MergeState) (ahead : List (List ℕ))
     → (IsTrue content.honest → AreEntries (entries_of content sorted) merge.passed ahead)
     → HasMerged content stores sorted merge → HasMerged content stores sorted (record merge { ahead = ahead })
-merged_ahead content stores sorted merge ahead there =
-    merged_with content stores sorted merge merge.slots ahead merge.damaged (λ honest shape slots. slots) (λ honest entries. there honest)
+merged_ahead content stores sorted merge ahead there = search (arith, merged_with)
 
 -- one with slots that are read ahead
 pub merged_slots : (content : Content) (stores : List HashState) (sorted : SortedState) (merge : MergeState) (slots : List (List ℕ))
     → (IsTrue content.honest → sorted.shape ≡ merge.shape → AreSlots sorted.shape (get_or (regions_of stores) merge.store 0) content.shown merge.slot slots)
     → HasMerged content stores sorted merge → HasMerged content stores sorted (record merge { slots = slots })
-merged_slots content stores sorted merge slots there =
-    merged_with content stores sorted merge slots merge.ahead merge.damaged (λ honest shape slots below. there honest shape) (λ honest entries. entries)
+merged_slots content stores sorted merge slots there = search (arith, merged_with)
 
 -- what is found damaged does not matter for what is merged
 pub merged_noted : (content : Content) (stores : List HashState) (sorted : SortedState) (merge : MergeState) (damaged : Option Place)
     → HasMerged content stores sorted merge → HasMerged content stores sorted (record merge { damaged = damaged })
-merged_noted content stores sorted merge damaged =
-    merged_with content stores sorted merge merge.slots merge.ahead damaged (λ honest shape slots. slots) (λ honest entries. entries)
+merged_noted content stores sorted merge damaged = merged_with _ stores sorted merge _ _ _ (λ honest shape slots. slots) (λ honest entries. entries)
 
 -- ---- on a disk
 
@@ -293,10 +246,9 @@ merged_behind content stores sorted merge next bytes input held all some there b
       let past : length (regions_of stores) ≤ merge.store = omega (arith, regions_count stores, is.counted) in
       let rises = rises_of (entries_in image sorted) sound.entries in
       let decided = decided_of image stores sorted merge past (held.ended all) so_far.gathered in
-      let long = entry_count sorted.shape sorted.region sorted.count image in
       absurd (go next merge.last refl some (there honest so_far.gathered.ahead) behind (λ key is_key below.
       next_above (entries_in image sorted) (rows_of_hashes sorted.shape image (regions_of stores)) merge.decided merge.passed
-      (waits_in image stores sorted merge.waiting) rises decided key.0 (so_far.gathered.last key is_key) (omega (arith, long, below))));
+      (waits_in image stores sorted merge.waiting) rises decided key.0 (so_far.gathered.last key is_key) (omega (arith, entry_count sorted.shape sorted.region sorted.count image, below))));
 }
   where
     go : (next : Option Key) (last : Option Key) → merge.last ≡ last → is_some next ≡ nat_lt merge.passed sorted.count
@@ -317,13 +269,12 @@ module _ (old new : Content) (stores : List HashState) (sorted : SortedState) (m
   -- all that is merged stays
   sources_stay : HasMerged old stores sorted merge → AreSound new.shown stores sorted → IsTrue old.honest → SameSources sorted.shape (regions_of stores) sorted old.shown new.shown
   sources_stay is sound was =
-      same_beside stores sorted merge.region old.shown new.shown (subst (λ (s : Shape). device_size s ≤ size old) (sym is.shape) fits) sound.there held_sorted is.apart held.there
-      (subst (λ (s : Shape). Torn (sorted_at s merge.region) (s.sorted_capacity * entry_len s) old.shown new.shown) (sym is.shape) (changes.shown was))
+      same_beside stores sorted _ _ _ (rw (← is.shape) at fits) sound.there held_sorted is.apart held.there (rw (← is.shape) at (changes.shown was))
 
   -- a source that waits after a key is decided waited before
   still_inside : (choice : Choice) (after : List (Key × Source)) → ((key : List ℕ) → source_at after key ≡ cond (bytes_eq choice.key.0 key) None (source_at merge.waiting key))
       → (key : List ℕ) (source : Source) → source_at after key ≡ Some source → source_at merge.waiting key ≡ Some source
-  still_inside choice after gone key source is = (cond_some (bytes_eq choice.key.0 key) (source_at merge.waiting key) source (sym (gone key) ∙ is)).1
+  still_inside choice after gone key source is = (cond_some _ _ source (sym (gone key) ∙ is)).1
 
   -- a decided key, with its entry if it has one
   pub merged_step : (first : Option (Key × Source)) (next : Option Key) (choice : Choice) (bytes row_bytes : List ℕ) (after : List (Key × Source))
@@ -425,11 +376,11 @@ module _ (old new : Content) (stores : List HashState) (sorted : SortedState) (m
       new_rows = sorted_rows merge.shape merge.region count new.shown
 
       old_count : length old_rows ≡ merge.written
-      old_count = entry_count merge.shape merge.region merge.written old.shown
+      old_count = entry_count _ _ _ _
 
       -- as many entries are written as the region returned
       rows_after : sorted_rows merge.shape merge.region (written_after due merge.written) new.shown ≡ new_rows
-      rows_after = ap (λ n. sorted_rows merge.shape merge.region n new.shown) (sym (count_written cap merge.written (choice_puts choice.source) due count due_is counted))
+      rows_after = ap (λ n. sorted_rows merge.shape merge.region n new.shown) (sym (count_written cap _ _ due count due_is counted))
 
 -- the next row to decide is a put, if the row that decides is
 pub next_puts : (content : Content) (stores : List HashState) (sorted : SortedState) (merge : MergeState) (first : Option (Key × Source))
@@ -460,24 +411,11 @@ next_puts content stores sorted merge first next choice bytes row_bytes held all
 -- a merge with others ahead, another index with as many keys as there may be, and another hasher
 pub held_with : (merge : MergeState) (slots ahead : List (List ℕ)) (index : BuilderState) (hasher : Sha1) → index.building.count ≤ merge.written + 1
     → IsHeldMerge merge → IsHeldMerge (record merge { slots = slots; ahead = ahead; index = index; hasher = hasher })
-held_with merge slots ahead index hasher most held = record {
-  there = held.there;
-  store = held.store;
-  slot = held.slot;
-  ended = held.ended;
-  gathers = held.gathers;
-  fresh = held.fresh;
-  unpassed = held.unpassed;
-  above = held.above;
-  inside = λ key source found. let inside = held.inside key source found in record { store = inside.store; slot = inside.slot };
-  room = held.room;
-  few = held.few;
-  index = most;
-}
+held_with merge slots ahead index hasher most held = search arith
 
 -- with what is read ahead
 pub held_reads : (merge : MergeState) (slots ahead : List (List ℕ)) → IsHeldMerge merge → IsHeldMerge (record merge { slots = slots; ahead = ahead })
-held_reads merge slots ahead held = held_with merge slots ahead merge.index merge.hasher held.index held
+held_reads merge slots ahead held = held_with merge slots ahead _ _ held.index held
 
 -- a merge with one key more, whose entry is written or not
 pub decided_held : (merge : MergeState) (choice : Choice) (is_written : Bool) (after : List (Key × Source)) (ahead : List (List ℕ)) (input : Taken)
@@ -502,28 +440,28 @@ decided_held merge choice is_written after ahead input held all offers room gone
   fresh = λ still. absurd (omega (arith, all));
   unpassed = λ still. absurd (omega (arith, all));
   above = λ key source found.
-      let parts = cond_some (bytes_eq choice.key.0 key) (source_at merge.waiting key) source (sym (gone key) ∙ found) in
+      let parts = cond_some _ _ source (sym (gone key) ∙ found) in
       higher key parts.0 (offers.least key source parts.1);
   inside = λ key source found.
-      let inside = held.inside key source (cond_some (bytes_eq choice.key.0 key) (source_at merge.waiting key) source (sym (gone key) ∙ found)).1 in
+      let inside = held.inside key source (cond_some _ _ source (sym (gone key) ∙ found)).1 in
       record { store = inside.store; slot = inside.slot };
-  room = within is_written room;
-  few = go choice.source refl;
-  index = let grows = grown is_written merge.written (written_after is_written merge.written) refl in omega (arith, grows, held.index);
+  room = within _ room;
+  few = go _ refl;
+  index = omega (arith, grown is_written merge.written (written_after is_written merge.written) refl, held.index);
 }
   where
     within : (b : Bool) → (b ≡ true → merge.written < merge.shape.sorted_capacity) → written_after b merge.written ≤ merge.shape.sorted_capacity
-    within true below = let under = below refl in omega (arith, under)
+    within true below = omega (arith, below refl)
     within false below = held.room
 
     higher : (key : List ℕ) → bytes_eq choice.key.0 key ≡ false → slice_cmp nat_cmp key choice.key.0 ≢ Less → is_lt (slice_cmp nat_cmp choice.key.0 key) ≡ true
     higher key other least =
         let go : (o : Ordering) → slice_cmp nat_cmp key choice.key.0 ≡ o → is_lt (slice_cmp nat_cmp choice.key.0 key) ≡ true = elim [
           | Less ↦ λ o. absurd (least o)
-          | Equal ↦ λ o. let same = key_itself choice.key.0 key (sym (exact_bytes key choice.key.0 o)) in absurd (cc)
+          | Equal ↦ λ o. let same = key_itself _ key (sym (exact_bytes key choice.key.0 o)) in absurd (cc)
           | Greater ↦ λ o. ap is_lt (turned key choice.key.0 o)
         ] in
-        go (slice_cmp nat_cmp key choice.key.0) refl
+        go _ refl
 
     at_least : (b : Bool) → merge.passed ≤ passed_after b merge.passed
     at_least true = omega arith
@@ -545,12 +483,12 @@ offered_inside merge choice held offers source is = held.inside choice.key.0 sou
 pub entries_written : (merge : MergeState) (content : Content) (store made : SortedState) (count : ℕ) → store ≡ made
     → made ≡ (let s : SortedState = record { shape = merge.shape; region = merge.region; count = count } in s)
     → count ≡ merge.written → entries_of content store ≡ sorted_rows merge.shape merge.region merge.written content.shown
-entries_written merge content store made count same is all = ap (entries_of content) (same ∙ is) ∙ ap (λ n. sorted_rows merge.shape merge.region n content.shown) all
+entries_written merge content store made count same is all = cc
 
 module _ (merge : MergeState) (sorted : SortedState) where
   -- a merge in which a row waits is not done
   pub not_decided : length merge.waiting ≢ 0 → false ≡ is_done merge sorted
-  not_decided some = go (merge.store == merge.stores)
+  not_decided some = go _
     where
       go : (b : Bool) → false ≡ ((b && (length merge.waiting == 0)) && nat_le sorted.count merge.passed)
       go true = sym (ap (λ b. b && nat_le sorted.count merge.passed) (ne_eqb (length merge.waiting) 0 some))
@@ -562,27 +500,21 @@ module _ (merge : MergeState) (sorted : SortedState) where
 
   -- once all slots are gathered and no row waits, the entries decide
   pub entries_decide : merge.store ≡ merge.stores → length merge.waiting ≡ 0 → nat_le sorted.count merge.passed ≡ is_done merge sorted
-  entries_decide all none =
-      let both : ((merge.store == merge.stores) && (length merge.waiting == 0)) ≡ true =
-      and_from (merge.store == merge.stores) (length merge.waiting == 0) (eq-eqb merge.store merge.stores all) (eq-eqb (length merge.waiting) 0 none) in
-      sym (ap (λ b. b && nat_le sorted.count merge.passed) both)
+  entries_decide all none = search (arith, and_from, eq-eqb)
 
   -- what a merge that is done has
   done_parts : is_done merge sorted ≡ true → (merge.store ≡ merge.stores) × (merge.waiting ≡ []) × (sorted.count ≤ merge.passed)
   done_parts done =
       let last = and_parts ((merge.store == merge.stores) && (length merge.waiting == 0)) (nat_le sorted.count merge.passed) done in
       let both = and_parts (merge.store == merge.stores) (length merge.waiting == 0) last.0 in
-      (eqb-true merge.store merge.stores both.0, no_length merge.waiting (eqb-true (length merge.waiting) 0 both.1), leb-true sorted.count merge.passed last.1)
+      (eqb-true merge.store merge.stores both.0, no_length _ (eqb-true (length merge.waiting) 0 both.1), leb-true sorted.count merge.passed last.1)
     where
       no_length : (l : List (Key × Source)) → length l ≡ 0 → l ≡ []
       no_length [] none = refl
       no_length (x ∷ l) none = absurd (omega arith)
 
   done_from : merge.store ≡ merge.stores → merge.waiting ≡ [] → sorted.count ≤ merge.passed → is_done merge sorted ≡ true
-  done_from all none past =
-      and_from ((merge.store == merge.stores) && (length merge.waiting == 0)) (nat_le sorted.count merge.passed)
-      (and_from (merge.store == merge.stores) (length merge.waiting == 0) (eq-eqb merge.store merge.stores all) (ap (λ (l : List (Key × Source)). length l == 0) none))
-      (le-leb sorted.count merge.passed past)
+  done_from all none past = search (arith, and_from, eq-eqb, le-leb)
 
   -- one that is not done has a key to decide once all slots are gathered
   pub nothing_left : (first : Option (Key × Source)) (next : Option Key) → is_done merge sorted ≡ false → merge.store ≡ merge.stores
@@ -650,19 +582,17 @@ module _ (merge : MergeState) (sorted : SortedState) where
       no_source (Some source) none = absurd (cc)
 
       fewer : (store stores slot slots : ℕ) → store < stores → slot < slots → store * slots + slot < stores * slots
-      fewer store stores slot slots below inside = let apart = next_region store stores slots below in omega (arith, apart)
+      fewer store stores slot slots below inside = omega (arith, next_region store stores slots below)
 
       all_gathered_at : merge.decided ≤ length (newest_rows (entries_in content.shown sorted ++ rows_of_hashes sorted.shape content.shown (regions_of stores)))
           → merge.store * (4 * merge.shape.buckets) + merge.slot + merge.decided ≡ merge.stores * (4 * merge.shape.buckets) + length
           (newest_rows (entries_in content.shown sorted ++ rows_of_hashes sorted.shape content.shown (regions_of stores)))
           → (merge.store ≡ merge.stores) × (length (newest_rows (entries_in content.shown sorted ++ rows_of_hashes sorted.shape content.shown (regions_of stores))) ≤ merge.decided)
       all_gathered_at most steps = elim (cases_lt merge.store merge.stores) [
-        | inl below ↦ let few = fewer merge.store merge.stores merge.slot (4 * merge.shape.buckets) below held.slot in absurd (omega (arith, few, most, steps))
+        | inl below ↦ absurd (omega (arith, fewer _ _ _ _ below held.slot, most, steps))
         | inr past ↦
             let store : merge.store ≡ merge.stores = omega (arith, held.store) in
-            let slots : merge.store * (4 * merge.shape.buckets) ≡ merge.stores * (4 * merge.shape.buckets) = ap (λ n. n * (4 * merge.shape.buckets)) store in
-            let slot = held.ended store in
-            (store, omega (arith, slots, slot, steps))
+            (store, omega (arith, ap (λ n. n * (4 * merge.shape.buckets)) store, held.ended store, steps))
       ]
 
   -- and has written all entries
@@ -671,10 +601,7 @@ module _ (merge : MergeState) (sorted : SortedState) where
       → sorted_rows merge.shape merge.region merge.written content.shown ≡ take merge.shape.sorted_capacity (merged_rows (sources content.shown stores sorted))
   unfolding merged_rows
   done_entries content stores held done is honest sound =
-      let so_far = is.merged honest sound in
-      let keys = all_keys content stores held is honest sound done in
-      so_far.writes
-      ∙ ap (λ l. take merge.shape.sorted_capacity (filter is_put_row l)) (take_all merge.decided (newest_rows (sources content.shown stores sorted)) (omega (arith, keys)))
+      cc ((is.merged honest sound).writes, take_all merge.decided (newest_rows (sources content.shown stores sorted)) (omega (arith, all_keys _ stores held is honest sound done)))
 
   -- which are a merge of the rows
   pub done_merge : (content : Content) (stores : List HashState) → IsHeldMerge merge → is_done merge sorted ≡ true
@@ -682,8 +609,8 @@ module _ (merge : MergeState) (sorted : SortedState) where
       → length (merged_rows (sources content.shown stores sorted)) ≤ merge.shape.sorted_capacity
       → IsMergeOf (sources content.shown stores sorted) (sorted_rows merge.shape merge.region merge.written content.shown)
   done_merge content stores held done is honest sound room =
-      let all = done_entries content stores held done is honest sound ∙ take_all merge.shape.sorted_capacity (merged_rows (sources content.shown stores sorted)) room in
-      subst (IsMergeOf (sources content.shown stores sorted)) (sym all) (merged_law (sources content.shown stores sorted))
+      let all = done_entries _ stores held done is honest sound ∙ take_all merge.shape.sorted_capacity (merged_rows (sources content.shown stores sorted)) room in
+      rw (← all) at (merged_law (sources content.shown stores sorted))
 
 -- the index of a merge, in which only its builder changes
 pub seals : (old new : MergeState) → (made : MarkedCode) × (new ≡ record old { index = record { building = old.index.building; sealed = Some made } })

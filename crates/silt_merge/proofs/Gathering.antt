@@ -1,27 +1,20 @@
 -- What waits after one slot more.
-use Rattle.std.proofs.Common.{◌≡◌, ℕ, zero, suc, ◌+◌, ◌*◌, ◌<◌, ◌≤◌, eqb, Bool, true, false, ◌&&◌, cond, List, [], ◌∷◌, ◌++◌, filter, flat_map, length, map}
-use Rattle.std.proofs.Common.{take, get_or, Option, Some, None, option_map, inl, inr, refl, sym, ap, ◌∙◌, arith, append_assoc, append-nil, bytes_eq}
-use Rattle.std.specs.Option.{option_or}
-use Rattle.std.proofs.lemmas.Bool.{cases_Bool, cond-true, cond-false, eqb-true, or_parts}
-use Rattle.std.proofs.lemmas.List.{map-append, take_all, take_more}
+use Rattle.silt_merge.proofs.Common.{◌≡◌, ℕ, zero, suc, ◌+◌, ◌*◌, ◌<◌, ◌≤◌, Bool, true, false, ◌&&◌, cond, List, [], ◌∷◌, ◌++◌, filter, flat_map, length, map, take, get_or, Option, Some}
+use Rattle.silt_merge.proofs.Common.{None, option_map, refl, sym, ap, ◌∙◌, arith, bytes_eq, option_or, cases_Bool, cond-true, cond-false, eqb-true, take_more, Shape, Row, IsRowAt, slot_row}
+use Rattle.silt_merge.proofs.Common.{hash_part, all_before, newest_row, hash_findings, StoredRow, Gathers, slot_after, source_at, Key, source_row, rows_of_hashes, Source}
+use Rattle.std.proofs.Common.{append_assoc, append-nil}
+use Rattle.std.proofs.lemmas.Bool.{or_parts}
+use Rattle.std.proofs.lemmas.List.{map-append, take_all}
 use Rattle.std.proofs.lemmas.List.Elements.{filter-append}
-use Rattle.silt_disk.specs.Layout.{Shape}
-use Rattle.silt_frame.specs.declared.key.Row.{Row}
-use Rattle.silt_hash_store.specs.Lookup.{IsRowAt}
-use Rattle.silt_hash_store.specs.Slots.{rows_before, slot_row, hash_part, hash_rows}
+use Rattle.silt_hash_store.specs.Slots.{rows_before, hash_rows}
 use Rattle.silt_hash_store.proofs.Growing.{all_sound}
-use Rattle.silt_hash_store.proofs.Slotting.{all_before, before_more, before_taken, sound_parts}
-use Rattle.silt_event.specs.Rows.{newest_row}
-use Rattle.silt_hash_store.specs.Findings.{hash_findings, holds_key}
+use Rattle.silt_hash_store.proofs.Slotting.{before_more, before_taken, sound_parts}
+use Rattle.silt_hash_store.specs.Findings.{holds_key}
 use Rattle.silt_log.specs.Parts.{known_rows, oldest_first}
 use Rattle.silt_event.proofs.Findings.{nothing_first, nothing_second}
-use Rattle.silt_frame.specs.Rows.{has_known_kind, StoredRow}
-use Rattle.silt_merge.specs.Choice.{Gathers, own_source}
-use Rattle.silt_merge.specs.State.{slot_after, source_at}
-use Rattle.silt_frame.specs.declared.key.Key.{Key}
-use Rattle.silt_merge.specs.Merging.{gathered_rows, source_row}
-use Rattle.silt_merge.specs.Rows.{rows_of_hashes}
-use Rattle.silt_merge.specs.declared.source.Source.{Source}
+use Rattle.silt_frame.specs.Rows.{has_known_kind}
+use Rattle.silt_merge.specs.Choice.{own_source}
+use Rattle.silt_merge.specs.Merging.{gathered_rows}
 use Rattle.silt_merge.proofs.Newest.{key_is, newest_append, newest_cons, or_none, own}
 
 -- ---- rows
@@ -30,10 +23,13 @@ use Rattle.silt_merge.proofs.Newest.{key_is, newest_append, newest_cons, or_none
 row_more : (older newer : List StoredRow) (row : StoredRow) (key : List ℕ) → (bytes_eq row.key key ≡ true → newest_row older key ≡ None)
     → newest_row ((older ++ row ∷ []) ++ newer) key ≡ option_or (newest_row (older ++ newer) key) (own row key)
 row_more older newer row key alone =
-    newest_append (older ++ row ∷ []) newer key
-    ∙ ap (option_or (newest_row newer key)) (newest_append older (row ∷ []) key ∙ ap (λ o. option_or o (newest_row older key)) (newest_cons row [] key))
-    ∙ turn (bytes_eq row.key key) (newest_row newer key) (newest_row older key) alone
-    ∙ ap (λ o. option_or o (own row key)) (sym (newest_append older newer key))
+    cc (
+      newest_append (older ++ row ∷ []) newer key,
+      newest_append older (row ∷ []) key,
+      newest_cons row [] key,
+      turn (bytes_eq row.key key) (newest_row newer key) (newest_row older key) alone,
+      newest_append older newer key,
+    )
   where
     turn : (b : Bool) (n o : Option StoredRow) → (b ≡ true → o ≡ None) → option_or n (option_or (cond b (Some row) None) o) ≡ option_or (option_or n o) (cond b (Some row) None)
     turn true n o none = sym (ap (λ p. option_or (option_or n p) (Some row)) (none refl) ∙ ap (λ p. option_or p (Some row)) (or_none n))
@@ -55,11 +51,10 @@ none_known key (row ∷ rows) none =
 
 -- a list with one row more at its end, as far as rows are of known kinds
 known_more : (rows : List StoredRow) (row : StoredRow) → has_known_kind row ≡ true → filter has_known_kind (rows ++ row ∷ []) ≡ filter has_known_kind rows ++ row ∷ []
-known_more rows row known = filter-append has_known_kind rows (row ∷ []) ∙ ap (λ l. filter has_known_kind rows ++ l) (cond-true _ _ _ known)
+known_more rows row known = cc (filter-append has_known_kind rows (row ∷ []), cond-true _ _ _ known)
 
 unknown_more : (rows : List StoredRow) (row : StoredRow) → has_known_kind row ≡ false → filter has_known_kind (rows ++ row ∷ []) ≡ filter has_known_kind rows
-unknown_more rows row unknown =
-    filter-append has_known_kind rows (row ∷ []) ∙ ap (λ l. filter has_known_kind rows ++ l) (cond-false _ _ _ unknown) ∙ append-nil (filter has_known_kind rows)
+unknown_more rows row unknown = cc (filter-append has_known_kind rows (row ∷ []), cond-false _ _ _ unknown, append-nil (filter has_known_kind rows))
 
 -- ---- stores
 
@@ -72,7 +67,7 @@ oldest_behind (newest ∷ older) last = ap (λ l. l ++ newest) (oldest_behind ol
 pub each_sound : (s : Shape) (image regions : List ℕ) (store : ℕ) → flat_map (hash_findings s) (map (hash_part s image) regions) ≡ [] → store < length regions
     → hash_findings s (hash_part s image (get_or regions store 0)) ≡ []
 each_sound s image [] store none below = absurd (omega arith)
-each_sound s image (region ∷ regions) zero none below = nothing_first (hash_findings s (hash_part s image region)) (flat_map (hash_findings s) (map (hash_part s image) regions)) none
+each_sound s image (region ∷ regions) zero none below = nothing_first _ _ none
 each_sound s image (region ∷ regions) (suc store) none below =
     each_sound s image regions store (nothing_second (hash_findings s (hash_part s image region)) (flat_map (hash_findings s) (map (hash_part s image) regions)) none) (omega arith)
 
@@ -92,10 +87,9 @@ module _ (s : Shape) (image regions : List ℕ) (store : ℕ) where
   store_gathered below =
       let more : take (store + 1) regions ≡ take store regions ++ region ∷ [] = take_more regions store 0 below in
       let parts : map known_rows (map (hash_part s image) (take store regions ++ region ∷ [])) ≡ map known_rows (map (hash_part s image) (take store regions))
-      ++ known_rows (hash_part s image region) ∷ [] =
-      ap (map known_rows) (map-append (hash_part s image) (take store regions) (region ∷ [])) ∙ map-append known_rows (map (hash_part s image) (take store regions)) (hash_part s image region ∷ []) in
-      ap (λ l. filter has_known_kind l ++ rows_of_hashes s image (take store regions)) (sym (all_before s region image))
-      ∙ sym (ap (rows_of_hashes s image) more ∙ ap oldest_first parts ∙ oldest_behind (map known_rows (map (hash_part s image) (take store regions))) (known_rows (hash_part s image region)))
+      ++ known_rows (hash_part s image region) ∷ [] = ap (map known_rows) (map-append (hash_part s image) (take store regions) (region ∷ [])) ∙ map-append
+      known_rows (map (hash_part s image) (take store regions)) (hash_part s image region ∷ []) in
+      cc (all_before s region image, oldest_behind (map known_rows (map (hash_part s image) (take store regions))) (known_rows (hash_part s image region)))
 
 -- no slot of a store
 pub none_gathered : (s : Shape) (image regions : List ℕ) (store : ℕ) → gathered_rows s image regions store 0 ≡ rows_of_hashes s image (take store regions)
@@ -104,7 +98,7 @@ none_gathered s image regions store = refl
 
 -- all stores
 pub all_gathered : (s : Shape) (image regions : List ℕ) (store slot : ℕ) → length regions ≤ store → slot ≡ 0 → gathered_rows s image regions store slot ≡ rows_of_hashes s image regions
-all_gathered s image regions store slot past none = ap (gathered_rows s image regions store) none ∙ none_gathered s image regions store ∙ ap (rows_of_hashes s image) (take_all store regions past)
+all_gathered s image regions store slot past none = cc (none_gathered s image regions store, take_all store regions past)
 
 -- ---- a slot that is gathered
 
@@ -120,13 +114,7 @@ module _ (s : Shape) (image regions : List ℕ) (store slot : ℕ) (below : stor
 
   -- a source is the row in its slot
   own_row : (row : Row) (key : List ℕ) → IsRowAt shown slot (Some row) → option_map (source_row s image regions) (own_source store slot row key) ≡ own shown key
-  own_row row key is =
-      let same : source_row s image regions (record { kind = row.kind; store = store; slot = slot }) ≡ shown = ap (λ n. let r : StoredRow = record shown { kind = n } in r) is.kind in
-      let go : (b : Bool) → option_map (source_row s image regions) (cond b (Some (record { kind = row.kind; store = store; slot = slot })) None) ≡ cond b (Some shown) None = elim [
-        | true ↦ ap Some same
-        | false ↦ refl
-      ] in
-      go (bytes_eq row.key.0 key) ∙ ap (λ k. cond (bytes_eq k key) (Some shown) None) is.key
+  own_row row key is = search arith
 
   -- no earlier slot of the store has the key of a row of a known kind
   alone : (key : List ℕ) → has_known_kind shown ≡ true → bytes_eq shown.key key ≡ true → newest_row (filter has_known_kind (rows_before s (get_or regions store 0) image slot)) key ≡ None
@@ -141,32 +129,17 @@ module _ (s : Shape) (image regions : List ℕ) (store slot : ℕ) (below : stor
   row_gathered : (row : Row) (key : List ℕ) → IsRowAt shown slot (Some row)
       → newest_row (gathered_rows s image regions store (slot + 1)) key ≡ option_or (newest_row (gathered_rows s image regions store slot) key) (own shown key)
   unfolding gathered_rows
-  row_gathered row key is =
-      let region : ℕ = get_or regions store 0 in
-      let older : List StoredRow = filter has_known_kind (rows_before s region image slot) in
-      let newer : List StoredRow = rows_of_hashes s image (take store regions) in
-      ap (λ l. newest_row l key) (slot_gathered s image regions store slot)
-      ∙ ap (λ l. newest_row (l ++ newer) key) (known_more (rows_before s region image slot) shown is.known)
-      ∙ row_more older newer shown key (alone key is.known)
+  row_gathered row key is = search (arith, slot_gathered, known_more, row_more, alone)
 
   -- and if it has none
   none_there : (key : List ℕ) → IsRowAt shown slot None → newest_row (gathered_rows s image regions store (slot + 1)) key ≡ newest_row (gathered_rows s image regions store slot) key
   unfolding gathered_rows
-  none_there key unknown =
-      let region : ℕ = get_or regions store 0 in
-      ap (λ l. newest_row l key) (slot_gathered s image regions store slot)
-      ∙ ap (λ l. newest_row (l ++ rows_of_hashes s image (take store regions)) key) (unknown_more (rows_before s region image slot) shown unknown)
+  none_there key unknown = search (arith, slot_gathered, unknown_more)
 
 -- the rows that are gathered before the next slot
 pub next_gathered : (s : Shape) (image regions : List ℕ) (store slot : ℕ) → store < length regions
     → gathered_rows s image regions (slot_after store slot (4 * s.buckets)).0 (slot_after store slot (4 * s.buckets)).1 ≡ gathered_rows s image regions store (slot + 1)
-next_gathered s image regions store slot below = elim (cases_Bool (eqb (slot + 1) (4 * s.buckets))) [
-  | inl last ↦
-      ap (λ (p : ℕ × ℕ). gathered_rows s image regions p.0 p.1) (cond-true _ _ _ last)
-      ∙ none_gathered s image regions (store + 1)
-      ∙ sym (ap (gathered_rows s image regions store) (eqb-true (slot + 1) (4 * s.buckets) last) ∙ store_gathered s image regions store below)
-  | inr other ↦ ap (λ (p : ℕ × ℕ). gathered_rows s image regions p.0 p.1) (cond-false _ _ _ other)
-]
+next_gathered s image regions store slot below = search (arith, cases_Bool, cond-true, none_gathered, eqb-true, store_gathered, cond-false)
 
 -- the rows that wait after a slot was gathered are the newest of those that are gathered
 pub waits_kept : (s : Shape) (image regions : List ℕ) (store slot : ℕ) (row : Option Row) (before after : List (Key × Source)) → store < length regions → slot < 4 * s.buckets
@@ -174,10 +147,12 @@ pub waits_kept : (s : Shape) (image regions : List ℕ) (store slot : ℕ) (row 
     → ((key : List ℕ) → option_map (source_row s image regions) (source_at before key) ≡ newest_row (gathered_rows s image regions store slot) key)
     → (key : List ℕ) → option_map (source_row s image regions) (source_at after key) ≡ newest_row (gathered_rows s image regions store (slot + 1)) key
 waits_kept s image regions store slot None before after below inside none is keeps waits key =
-    ap (option_map (source_row s image regions)) (keeps key) ∙ waits key ∙ sym (none_there s image regions store slot below inside none key is)
+    cc (keeps key, waits key, none_there s image regions store slot below inside none key is)
 waits_kept s image regions store slot (Some row) before after below inside none is keeps waits key =
-    ap (option_map (source_row s image regions)) (keeps key)
-    ∙ map_or (source_row s image regions) (source_at before key) (own_source store slot row key)
-    ∙ ap (λ o. option_or o (option_map (source_row s image regions) (own_source store slot row key))) (waits key)
-    ∙ ap (option_or (newest_row (gathered_rows s image regions store slot) key)) (own_row s image regions store slot below inside none row key is)
-    ∙ sym (row_gathered s image regions store slot below inside none row key is)
+    cc (
+      keeps key,
+      map_or (source_row s image regions) (source_at before key) (own_source store slot row key),
+      waits key,
+      own_row s image regions store slot below inside none row key is,
+      row_gathered s image regions store slot below inside none row key is,
+    )

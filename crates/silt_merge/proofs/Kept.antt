@@ -1,14 +1,10 @@
 -- The map of the rows that wait, by the bytes of keys.
-use Rattle.std.proofs.Common.{◌≡◌, ◌≢◌, ℕ, false, true, cond, List, Option, Some, None, refl, sym, ap, ◌∙◌, BTreeMap, is_some, bytes_eq, Less}
+use Rattle.silt_merge.proofs.Common.{◌≡◌, ◌≢◌, ℕ, false, true, cond, List, Option, Some, None, refl, ap, ◌∙◌, bytes_eq, Less, slice_cmp, is_eq-slice_cmp, Key, Row, Gathers, source_at}
+use Rattle.silt_merge.proofs.Common.{Source}
+use Rattle.std.proofs.Common.{BTreeMap, is_some}
 use Rattle.std.specs.BTreeMap as tree
 use Rattle.std.specs.Ordering.{is_gt, nat_cmp, ordering_reverse}
-use Rattle.std.specs.Cmp.Lexicographic.{slice_cmp, nat_list_cmp_total}
-use Rattle.std.proofs.lemmas.Map.Text.{is_eq-slice_cmp}
-use Rattle.silt_frame.specs.declared.key.Key.{Key}
-use Rattle.silt_frame.specs.declared.key.Row.{Row}
-use Rattle.silt_merge.specs.Choice.{Gathers}
-use Rattle.silt_merge.specs.State.{source_at}
-use Rattle.silt_merge.specs.declared.source.Source.{Source}
+use Rattle.std.specs.Cmp.Lexicographic.{nat_list_cmp_total}
 use Rattle.silt_merge.proofs.Newest.{key_is, prefer}
 use Rattle.silt_frame.specs.Rows.{key_cmp}
 
@@ -27,8 +23,7 @@ kept_row store slot row before after lacks updates key =
     let source : Source = record { kind = row.kind; store = store; slot = slot } in
     updates.0 (record { 0 = key })
     ∙ ap (λ b. cond b (Some source) (source_at before.entries key)) (is_eq-slice_cmp row.key.0 key)
-    ∙ prefer (bytes_eq row.key.0 key) source (source_at before.entries key)
-    (λ same. nothing (source_at before.entries key) (ap (λ k. is_some (source_at before.entries k)) (sym (key_is row.key.0 key same)) ∙ lacks))
+    ∙ prefer _ source _ (λ same. nothing _ (cc (key_is row.key.0 key same)))
   where
     nothing : (o : Option Source) → is_some o ≡ false → o ≡ None
     nothing None none = refl
@@ -37,4 +32,4 @@ kept_row store slot row before after lacks updates key =
 -- a row that is let go
 pub remove_waiting : (key : Key) (before after : BTreeMap Key Source) → tree.UpdatesBy key_cmp (key_cmp key) before after None
     → (other : List ℕ) → source_at after.entries other ≡ cond (bytes_eq key.0 other) None (source_at before.entries other)
-remove_waiting key before after updates other = updates.0 (record { 0 = other }) ∙ ap (λ b. cond b None (source_at before.entries other)) (is_eq-slice_cmp key.0 other)
+remove_waiting key before after updates other = cc (updates.0 (record { 0 = other }), is_eq-slice_cmp key.0 other)

@@ -1,44 +1,34 @@
 -- The keys and the bytes of the entries that a merge wrote.
-use Rattle.std.proofs.Common.{◌≡◌, ℕ, zero, suc, ◌+◌, ◌<◌, ◌≤◌, nat_lt, Bool, true, false, ◌&&◌, ◌||◌, cond, List, [], ◌∷◌, ◌++◌, filter, length, take}
-use Rattle.std.proofs.Common.{slice_get, Option, Some, None, inl, inr, refl, sym, ap, ◌∙◌, arith, bytes_eq, is_lt, nat_cmp}
-use Rattle.std.specs.Cmp.Lexicographic.{slice_cmp}
-use Rattle.std.proofs.lemmas.Bool.{and_parts, cases_Bool, cond-true, cond-false, ltb-false, ltb-true}
+use Rattle.silt_merge.proofs.Common.{◌≡◌, ℕ, zero, suc, ◌+◌, ◌≤◌, nat_lt, Bool, true, false, ◌&&◌, ◌||◌, cond, List, [], ◌∷◌, ◌++◌, filter, length, take, slice_get, Option, Some, None, inl}
+use Rattle.silt_merge.proofs.Common.{inr, refl, sym, ap, ◌∙◌, arith, slice_cmp, and_parts, cases_Bool, cond-true, cond-false, ltb-false, ltb-true, Key, StoredRow, entries_bytes, entry_row}
+use Rattle.silt_merge.proofs.Common.{is_put_row, keys_of, has_row_with, hashed_after, written_after, due_rows, is_written, IsBuildingOf, is_above}
+use Rattle.std.proofs.Common.{is_lt, nat_cmp}
 use Rattle.std.proofs.lemmas.List.{append-nil, length-append, map-append, take_all, take_at}
-use Rattle.silt_frame.specs.declared.key.Key.{Key}
-use Rattle.silt_frame.specs.Rows.{StoredRow, entries_bytes, entry_row, is_put_row, keys_of}
-use Rattle.silt_merge.specs.Rows.{has_row_with}
-use Rattle.silt_merge.specs.State.{hashed_after, keys_after, written_after}
+use Rattle.silt_merge.specs.State.{keys_after}
 use Rattle.silt_merge.proofs.Deciding.{before_at}
 use Rattle.silt_merge.proofs.Newest.{Rises, key_itself}
-use Rattle.silt_sorted_store.specs.Region.{due_rows, is_written}
 use Rattle.silt_sorted_store.proofs.Digested.{bytes_more}
-use Rattle.silt_trie.specs.Building.{Building, EndWith, IsBuildingOf, is_above}
+use Rattle.silt_trie.specs.Building.{Building, EndWith}
 
 -- ---- the entry that is written
 
 -- a put that is the only one is that of its row
 own_row : (bytes : List ℕ) (row : StoredRow) → entry_row bytes ∷ [] ≡ filter is_put_row (row ∷ []) → entry_row bytes ≡ row
-own_row bytes row is = elim (cases_Bool (is_put_row row)) [
-  | inl put ↦ let same : entry_row bytes ∷ [] ≡ row ∷ [] = is ∙ cond-true _ _ _ put in cc
-  | inr other ↦ let none : entry_row bytes ∷ [] ≡ [] = is ∙ cond-false _ _ _ other in absurd (cc)
-]
+own_row bytes row is = search (arith, cases_Bool, cond-true, cond-false)
 
 -- and it is a put
 pub puts_row : (bytes : List ℕ) (row : StoredRow) → entry_row bytes ∷ [] ≡ filter is_put_row (row ∷ []) → is_put_row row ≡ true
-puts_row bytes row is = elim (cases_Bool (is_put_row row)) [
-  | inl put ↦ put
-  | inr other ↦ let none : entry_row bytes ∷ [] ≡ [] = is ∙ cond-false _ _ _ other in absurd (cc)
-]
+puts_row bytes row is = search (arith, cases_Bool, cond-false)
 
 -- so many are written after an entry that is written if it has a value and the region has room
 pub count_written : (most written : ℕ) (puts due : Bool) (count : ℕ) → due ≡ is_written puts written most → count ≡ written + cond (is_written due written most) 1 0 → count ≡ written_after due written
 count_written most written puts due count due_is counted = go due refl
   where
     go : (b : Bool) → due ≡ b → count ≡ written_after b written
-    go false none = let same : count ≡ written + 0 = counted ∙ ap (λ b. written + cond (is_written b written most) 1 0) none in omega (arith, same)
+    go false none = let same : count ≡ written + 0 = cc in omega (arith, same)
     go true is =
         let below : nat_lt written most ≡ true = (and_parts puts (nat_lt written most) (sym due_is ∙ is)).1 in
-        counted ∙ ap (λ b. written + cond (is_written b written most) 1 0) is ∙ ap (λ b. written + cond b 1 0) below
+        cc
 
 -- this entry is written if it has a value, and the region has room
 module _ (most written : ℕ) (old new : List StoredRow) (puts due : Bool) (bytes : List ℕ) (due_is : due ≡ is_written puts written most) (old_count : length old ≡ written) (room : written ≤ most)
@@ -50,8 +40,7 @@ module _ (most written : ℕ) (old new : List StoredRow) (puts due : Bool) (byte
       fits : (b : Bool) → due ≡ b → length (old ++ due_rows b bytes) ≤ most
       fits false none = omega (arith, old_count, room, length-append old [])
       fits true is =
-          let below : written < most = ltb-true written most (and_parts puts (nat_lt written most) (sym due_is ∙ is)).1 in
-          omega (arith, old_count, below, length-append old (entry_row bytes ∷ []))
+          omega (arith, old_count, ltb-true written most (and_parts puts (nat_lt written most) (sym due_is ∙ is)).1, length-append old (entry_row bytes ∷ []))
 
   -- as if it were written whenever it has a value, up to the room that there is
   pub rows_due : new ≡ take most (old ++ due_rows puts bytes)
@@ -62,8 +51,7 @@ module _ (most written : ℕ) (old new : List StoredRow) (puts due : Bool) (byte
       go true true some room_is = let is_due : due ≡ true = due_is ∙ ap (λ b. b && nat_lt written most) some ∙ room_is in made ∙ ap (λ b. take most (old ++ due_rows b bytes)) is_due
       go true false some full =
           let not_due : due ≡ false = due_is ∙ ap (λ b. b && nat_lt written most) some ∙ full in
-          let past : most ≤ written = ltb-false written most full in
-          rows_written ∙ ap (λ b. old ++ due_rows b bytes) not_due ∙ append-nil old ∙ sym (take_at old (entry_row bytes ∷ []) most (omega (arith, old_count, past, room)))
+          cc (rows_written, append-nil old, take_at old (entry_row bytes ∷ []) most (omega (arith, old_count, ltb-false written most full, room)))
 
   -- their bytes
   pub bytes_written : entries_bytes new ≡ hashed_after due (entries_bytes old) bytes
@@ -82,7 +70,7 @@ module _ (most written : ℕ) (old new : List StoredRow) (puts due : Bool) (byte
       go true is =
           let put : puts ≡ true = (and_parts puts (nat_lt written most) (sym due_is ∙ is)).0 in
           let it : entry_row bytes ≡ row = own_row bytes row (sym (ap (λ b. due_rows b bytes) put) ∙ its) in
-          map-append (λ (r : StoredRow). r.key) old (entry_row bytes ∷ []) ∙ ap (λ (k : List ℕ). keys_of old ++ k ∷ []) (ap (λ (r : StoredRow). r.key) it ∙ same)
+          cc (map-append (λ (r : StoredRow). r.key) old (entry_row bytes ∷ []))
 
 -- ---- a key of the index
 
@@ -100,16 +88,16 @@ either false c d step is = step is
 has_last : (rows : List StoredRow) (front : List (List ℕ)) (key : List ℕ) → keys_of rows ≡ front ++ key ∷ [] → has_row_with key rows ≡ true
 has_last [] [] key is = absurd (cc)
 has_last [] (first ∷ front) key is = absurd (cc)
-has_last (row ∷ rows) [] key is = let same : row.key ≡ key = cc in ap (λ b. b || has_row_with key rows) (key_itself row.key key same)
+has_last (row ∷ rows) [] key is = let same : row.key ≡ key = cc in ap (λ b. b || has_row_with key rows) (key_itself _ key same)
 has_last (row ∷ rows) (first ∷ front) key is =
     let rest : keys_of rows ≡ front ++ key ∷ [] = cc in
-    or_later (bytes_eq row.key key) (has_row_with key rows) (has_last rows front key rest)
+    or_later _ _ (has_last rows front key rest)
 
 -- a row of a beginning is one of all
 has_taken : (count : ℕ) (rows : List StoredRow) (key : List ℕ) → has_row_with key (take count rows) ≡ true → has_row_with key rows ≡ true
 has_taken zero rows key has = absurd (cc)
 has_taken (suc count) [] key has = has
-has_taken (suc count) (row ∷ rows) key has = either (bytes_eq row.key key) (has_row_with key (take count rows)) (has_row_with key rows) (has_taken count rows key) has
+has_taken (suc count) (row ∷ rows) key has = either _ _ _ (has_taken count rows key) has
 
 -- a put is one of all rows
 has_put : (rows : List StoredRow) (key : List ℕ) → has_row_with key (filter is_put_row rows) ≡ true → has_row_with key rows ≡ true
@@ -117,18 +105,18 @@ has_put [] key has = has
 has_put (row ∷ rows) key has =
     let further : has_row_with key (filter is_put_row rows) ≡ true → has_row_with key rows ≡ true = has_put rows key in
     elim (cases_Bool (is_put_row row)) [
-      | inl put ↦ either (bytes_eq row.key key) (has_row_with key (filter is_put_row rows)) (has_row_with key rows) further (sym (ap (has_row_with key) (cond-true _ _ _ put)) ∙ has)
-      | inr other ↦ or_later (bytes_eq row.key key) (has_row_with key rows) (further (sym (ap (has_row_with key) (cond-false _ _ _ other)) ∙ has))
+      | inl put ↦ either _ _ _ further (sym (ap (has_row_with key) (cond-true _ _ _ put)) ∙ has)
+      | inr other ↦ or_later _ _ (further (sym (ap (has_row_with key) (cond-false _ _ _ other)) ∙ has))
     ]
 
 -- the key of the next row is above the last one of the index
 pub above_index : (rows newest : List StoredRow) (index : Building) (decided most : ℕ) (row : StoredRow) (key : List ℕ) → Rises newest → IsBuildingOf (keys_of rows) index
     → rows ≡ take most (filter is_put_row (take decided newest)) → slice_get newest decided ≡ Some row → row.key ≡ key → is_above index.last key ≡ true
-above_index rows newest index decided most row key rises built is there same = go index.last built.last_is
+above_index rows newest index decided most row key rises built is there same = go _ built.last_is
   where
     go : (o : Option Key) → EndWith (keys_of rows) o → is_above o key ≡ true
     go None none = refl
     go (Some last) ends =
         let taken : has_row_with last.0 (take most (filter is_put_row (take decided newest))) ≡ true = sym (ap (has_row_with last.0) is) ∙ has_last rows ends.0 last.0 ends.1 in
-        let before = has_put (take decided newest) last.0 (has_taken most (filter is_put_row (take decided newest)) last.0 taken) in
+        let before = has_put _ last.0 (has_taken most _ last.0 taken) in
         ap is_lt (ap (slice_cmp nat_cmp last.0) (sym same) ∙ before_at newest decided last.0 row rises before there)

@@ -1,3 +1,4 @@
+pub mod Common
 pub mod Choosing
 pub mod Comparing
 pub mod Counting

@@ -1,28 +1,24 @@
 -- The newest rows of keys: how one is looked up, and that they rise.
-use Rattle.std.proofs.Common.{◌≡◌, ℕ, zero, suc, ◌+◌, ◌-◌, ◌==◌, ◌<◌, ◌≤◌, Bool, true, false, cond, List, [], ◌∷◌, ◌++◌, filter, find, length, reverse, Option}
-use Rattle.std.proofs.Common.{Some, None, option_and_then, inl, inr, refl, sym, subst, ap, ◌∙◌, arith, bytes_eq, Ordering, Less, Equal, Greater}
-use Rattle.std.specs.Option.{option_or}
-use Rattle.std.specs.Ordering.{is_eq, is_lt, match_ordering, nat_cmp, ordering_reverse}
-use Rattle.std.specs.Cmp.Lexicographic.{slice_cmp, nat_list_cmp_total}
+use Rattle.silt_merge.proofs.Common.{◌≡◌, ℕ, zero, suc, ◌+◌, ◌<◌, ◌≤◌, Bool, true, false, cond, List, [], ◌∷◌, ◌++◌, filter, length, Option, Some, None, inl, inr, refl, sym, subst, ap, ◌∙◌}
+use Rattle.silt_merge.proofs.Common.{arith, bytes_eq, Ordering, Less, Equal, Greater, option_or, slice_cmp, cases_Bool, cond-true, cond-false, exact_bytes, is_eq-slice_cmp, newest_row}
+use Rattle.silt_merge.proofs.Common.{StoredRow, is_put_row, key_at, newest_rows}
+use Rattle.std.proofs.Common.{◌==◌, find, reverse, option_and_then}
+use Rattle.std.specs.Ordering.{is_eq, match_ordering, nat_cmp, ordering_reverse}
+use Rattle.std.specs.Cmp.Lexicographic.{nat_list_cmp_total}
 use Rattle.std.specs.FinMap.{same_map, slice_cmp-IsAntisymmetric, nat_cmp-IsAntisymmetric}
-use Rattle.std.proofs.lemmas.Bool.{cases_Bool, cond-true, cond-false}
 use Rattle.std.proofs.lemmas.List.{reverse-append}
 use Rattle.std.proofs.lemmas.List.Folds.{find-append}
 use Rattle.std.proofs.lemmas.List.Sums.{sum_by-cons}
-use Rattle.std.proofs.lemmas.Map.Lookups.{exact_bytes}
-use Rattle.std.proofs.lemmas.Map.Text.{is_eq-slice_cmp}
 use Rattle.std.proofs.lemmas.Slice.Eq.{bytes_eq-Decides}
-use Rattle.silt_event.specs.Rows.{newest_row, value_given, map_of_rows}
-use Rattle.silt_sorted_store.specs.Findings.{entry_findings, is_key_below, sorted_findings}
-use Rattle.silt_frame.specs.Rows.{StoredRow, is_put_row, put_count}
-use Rattle.silt_event.specs.declared.damage.Finding.TheVariants.{Damaged}
-use Rattle.silt_event.specs.declared.place.Place.TheVariants.{Sorted}
+use Rattle.silt_event.specs.Rows.{value_given, map_of_rows}
+use Rattle.silt_sorted_store.specs.Findings.{sorted_findings}
+use Rattle.silt_frame.specs.Rows.{put_count}
 use Rattle.silt_event.proofs.Rows.{newest_law}
 use Rattle.silt_event.proofs.Findings.{nothing_where_passes}
 use Rattle.silt_sorted_store.proofs.Ranges.{none_of_all}
-use Rattle.silt_sorted_store.proofs.Rising.{key_at, not_below_itself}
+use Rattle.silt_sorted_store.proofs.Rising.{not_below_itself}
 use Rattle.silt_merge.specs.Laws.{KeyCountLaw, MergedLaw}
-use Rattle.silt_merge.specs.Rows.{merged_rows, newest_rows, with_older}
+use Rattle.silt_merge.specs.Rows.{merged_rows, with_older}
 
 -- ---- keys
 
@@ -57,11 +53,11 @@ own row key = cond (bytes_eq row.key key) (Some row) None
 
 -- with one older row
 pub newest_cons : (row : StoredRow) (rows : List StoredRow) (key : List ℕ) → newest_row (row ∷ rows) key ≡ option_or (newest_row rows key) (own row key)
-newest_cons row rows key = ap (find (λ (r : StoredRow). bytes_eq r.key key)) (reverse-append (row ∷ []) rows) ∙ find-append (λ (r : StoredRow). bytes_eq r.key key) (reverse rows) (row ∷ [])
+newest_cons row rows key = cc (reverse-append (row ∷ []) rows, find-append (λ (r : StoredRow). bytes_eq r.key key) (reverse rows) (row ∷ []))
 
 -- of older rows and newer ones
 pub newest_append : (older newer : List StoredRow) (key : List ℕ) → newest_row (older ++ newer) key ≡ option_or (newest_row newer key) (newest_row older key)
-newest_append older newer key = ap (find (λ (r : StoredRow). bytes_eq r.key key)) (reverse-append older newer) ∙ find-append (λ (r : StoredRow). bytes_eq r.key key) (reverse newer) (reverse older)
+newest_append older newer key = cc (reverse-append older newer, find-append (λ (r : StoredRow). bytes_eq r.key key) (reverse newer) (reverse older))
 
 -- the first row of a key
 abbrev pub row_with : List ℕ → List StoredRow → Option StoredRow
@@ -87,7 +83,7 @@ above_lower low high (row ∷ rows) less above = (nat_list_cmp_total.trans low h
 -- no row that is above a key has it
 pub none_above : (key : List ℕ) (rows : List StoredRow) → Above key rows → row_with key rows ≡ None
 none_above key [] above = refl
-none_above key (row ∷ rows) above = cond-false _ _ _ (key_above key row.key above.0) ∙ none_above key rows above.1
+none_above key (row ∷ rows) above = cond-false _ _ _ (key_above key _ above.0) ∙ none_above key rows above.1
 
 -- ---- a row among rows that rise
 
@@ -96,7 +92,7 @@ older_cases : (P : List StoredRow → Type 0) (row first : StoredRow) (rest : Li
     → (slice_cmp nat_cmp row.key first.key ≡ Less → P (row ∷ first ∷ rest))
     → (slice_cmp nat_cmp row.key first.key ≡ Equal → P (first ∷ rest)) → (slice_cmp nat_cmp row.key first.key ≡ Greater → P (first ∷ with_older row rest))
     → P (with_older row (first ∷ rest))
-older_cases P row first rest less equal greater = go (slice_cmp nat_cmp row.key first.key) refl
+older_cases P row first rest less equal greater = go _ refl
   where
     made : Ordering → List StoredRow
     made o = match_ordering o (row ∷ first ∷ rest) (first ∷ rest) (first ∷ with_older row rest)
@@ -142,31 +138,26 @@ kept_first : (row first : StoredRow) (rest : List StoredRow) (key : List ℕ) (b
 kept_first row first rest key true has same =
     let here : row_with key (first ∷ rest) ≡ Some first = cond-true _ _ _ (ap (λ k. bytes_eq k key) (sym same) ∙ has) in
     here ∙ sym (ap (λ o. option_or o (own row key)) here)
-kept_first row first rest key false other same = sym (ap (option_or (row_with key (first ∷ rest))) (cond-false _ _ _ other) ∙ or_none (row_with key (first ∷ rest)))
+kept_first row first rest key false other same = sym (ap (option_or (row_with key (first ∷ rest))) (cond-false _ _ _ other) ∙ or_none _)
 
 -- the row of a key after one older row
 find_older : (row : StoredRow) (rows : List StoredRow) → Rises rows → (key : List ℕ) → row_with key (with_older row rows) ≡ option_or (row_with key rows) (own row key)
 find_older row [] rises key = refl
 find_older row (first ∷ rest) rises key =
     let further = find_older row rest rises.1 key in
-    older_cases (λ rows. row_with key rows ≡ option_or (row_with key (first ∷ rest)) (own row key)) row first rest
-    (λ is.
-    prefer (bytes_eq row.key key) row (row_with key (first ∷ rest)) (λ same.
-    ap (λ k. row_with k (first ∷ rest)) (sym (key_is row.key key same))
-    ∙ none_above row.key (first ∷ rest) (is, above_lower row.key first.key rest is rises.0)))
-    (λ is. kept_first row first rest key (bytes_eq row.key key) refl (exact_bytes row.key first.key is))
-    (λ is. behind_first (bytes_eq first.key key) first _ _ _ further)
+    older_cases (λ rows. row_with key rows ≡ option_or (row_with key (first ∷ rest)) (own row key)) row first rest (λ is. prefer _ row _ (λ same.
+    cc (key_is row.key key same, none_above row.key (first ∷ rest) (is, above_lower row.key first.key rest is rises.0)))) (λ is. kept_first row first rest key _
+    refl (exact_bytes row.key first.key is)) (λ is. behind_first _ first _ _ _ further)
 
 -- the newest rows rise
 pub rises_newest : (rows : List StoredRow) → Rises (newest_rows rows)
 rises_newest [] = tt
-rises_newest (row ∷ rows) = rises_older row (newest_rows rows) (rises_newest rows)
+rises_newest (row ∷ rows) = rises_older row _ (rises_newest rows)
 
 -- and have the newest row of each key
 pub find_newest : (rows : List StoredRow) (key : List ℕ) → row_with key (newest_rows rows) ≡ newest_row rows key
 find_newest [] key = refl
-find_newest (row ∷ rows) key =
-    find_older row (newest_rows rows) (rises_newest rows) key ∙ ap (λ o. option_or o (own row key)) (find_newest rows key) ∙ sym (newest_cons row rows key)
+find_newest (row ∷ rows) key = cc (find_older row (newest_rows rows) (rises_newest rows) key, find_newest rows key, newest_cons row rows key)
 
 -- of rows that rise the only row of a key is its newest
 pub newest_rising : (rows : List StoredRow) → Rises rows → (key : List ℕ) → newest_row rows key ≡ row_with key rows
@@ -174,7 +165,7 @@ newest_rising [] rises key = refl
 newest_rising (row ∷ rows) rises key =
     newest_cons row rows key
     ∙ ap (λ o. option_or o (own row key)) (newest_rising rows rises.1 key)
-    ∙ sym (prefer (bytes_eq row.key key) row (row_with key rows) (λ same. ap (λ k. row_with k rows) (sym (key_is row.key key same)) ∙ none_above row.key rows rises.0))
+    ∙ sym (prefer _ row _ (λ same. cc (key_is row.key key same, none_above row.key rows rises.0)))
 
 -- ---- by places
 
@@ -188,7 +179,7 @@ above_at key (row ∷ rows) above (suc place) inside = above_at key rows above.1
 pub rises_at : (rows : List StoredRow) → Rises rows → (low high : ℕ) → low < high → high < length rows → slice_cmp nat_cmp (key_at rows low) (key_at rows high) ≡ Less
 rises_at [] rises low high lower inside = absurd (omega arith)
 rises_at (row ∷ rows) rises low zero lower inside = absurd (omega arith)
-rises_at (row ∷ rows) rises zero (suc high) lower inside = above_at row.key rows rises.0 high (omega arith)
+rises_at (row ∷ rows) rises zero (suc high) lower inside = above_at _ rows rises.0 high (omega arith)
 rises_at (row ∷ rows) rises (suc low) (suc high) lower inside = rises_at rows rises.1 low high (omega arith) (omega arith)
 
 -- and the other way round
@@ -199,17 +190,14 @@ above_from key (row ∷ rows) each = (each 0 (omega arith), above_from key rows 
 pub rises_from : (rows : List StoredRow) → ((low high : ℕ) → low < high → high < length rows → slice_cmp nat_cmp (key_at rows low) (key_at rows high) ≡ Less) → Rises rows
 rises_from [] each = tt
 rises_from (row ∷ rows) each = (
-  above_from row.key rows (λ place inside. each 0 (suc place) (omega arith) (omega arith)),
+  above_from _ rows (λ place inside. each 0 (suc place) (omega arith) (omega arith)),
   rises_from rows (λ low high lower inside. each (suc low) (suc high) (omega arith) (omega arith)),
 )
 
 -- nothing is found in rows that rise
 pub nothing_rising : (rows : List StoredRow) → Rises rows → sorted_findings rows ≡ []
 unfolding sorted_findings
-nothing_rising rows rises =
-    none_of_all (entry_findings rows) 1 (length rows - 1)
-    (λ place low high. nothing_where_passes (is_key_below (key_at rows (place - 1)) (key_at rows place)) (Damaged (Sorted place))
-    (ap is_lt (rises_at rows rises (place - 1) place (omega arith) (omega arith))))
+nothing_rising rows rises = search (arith, none_of_all, nothing_where_passes, rises_at)
 
 -- ---- those that are puts
 
@@ -228,10 +216,7 @@ no_put_first row rows other = cond-false _ _ _ other
 -- what holds with a put in front, and without a row that is none
 put_cases : (P : List StoredRow → Type 0) (row : StoredRow) (rows : List StoredRow) → (is_put_row row ≡ true → P (row ∷ filter is_put_row rows))
     → (is_put_row row ≡ false → P (filter is_put_row rows)) → P (filter is_put_row (row ∷ rows))
-put_cases P row rows put other = elim (cases_Bool (is_put_row row)) [
-  | inl is ↦ subst P (sym (put_first row rows is)) (put is)
-  | inr is ↦ subst P (sym (no_put_first row rows is)) (other is)
-]
+put_cases P row rows put other = search (arith, cases_Bool, put_first, no_put_first)
 
 above_puts : (key : List ℕ) (rows : List StoredRow) → Above key rows → Above key (filter is_put_row rows)
 above_puts key [] above = tt
@@ -242,40 +227,36 @@ above_puts key (row ∷ rows) above =
 pub rises_puts : (rows : List StoredRow) → Rises rows → Rises (filter is_put_row rows)
 rises_puts [] rises = tt
 rises_puts (row ∷ rows) rises =
-    let further = rises_puts rows rises.1 in put_cases Rises row rows (λ put. (above_puts row.key rows rises.0, further)) (λ other. further)
+    let further = rises_puts rows rises.1 in put_cases Rises row rows (λ put. (above_puts _ rows rises.0, further)) (λ other. further)
 
 -- the row of a key among them, with one row in front
 puts_more : (row : StoredRow) (rows : List StoredRow) (key : List ℕ) → row_with key (filter is_put_row rows) ≡ put_of (row_with key rows) → row_with row.key rows ≡ None
     → (p : Bool) → is_put_row row ≡ p → (b : Bool) → bytes_eq row.key key ≡ b → row_with key (filter is_put_row (row ∷ rows)) ≡ put_of (row_with key (row ∷ rows))
-puts_more row rows key further none true put true has = ap (row_with key) (put_first row rows put) ∙ cond-true _ _ _ has ∙ sym (ap put_of (cond-true _ _ _ has) ∙ cond-true _ _ _ put)
-puts_more row rows key further none true put false lacks = ap (row_with key) (put_first row rows put) ∙ cond-false _ _ _ lacks ∙ further ∙ sym (ap put_of (cond-false _ _ _ lacks))
-puts_more row rows key further none false other true has =
-    ap (row_with key) (no_put_first row rows other) ∙ further
-    ∙ ap put_of (ap (λ k. row_with k rows) (sym (key_is row.key key has)) ∙ none)
-    ∙ sym (ap put_of (cond-true _ _ _ has) ∙ cond-false _ _ _ other)
-puts_more row rows key further none false other false lacks = ap (row_with key) (no_put_first row rows other) ∙ further ∙ sym (ap put_of (cond-false _ _ _ lacks))
+puts_more row rows key further none true put true has = cc (put_first row rows put, cond-true _ _ _ has, cond-true _ _ _ put)
+puts_more row rows key further none true put false lacks = cc (put_first row rows put, cond-false _ _ _ lacks)
+puts_more row rows key further none false other true has = cc (no_put_first row rows other, key_is row.key key has, cond-true _ _ _ has, cond-false _ _ _ other)
+puts_more row rows key further none false other false lacks = cc (no_put_first row rows other, cond-false _ _ _ lacks)
 
 -- the row of a key among them
 find_puts : (rows : List StoredRow) → Rises rows → (key : List ℕ) → row_with key (filter is_put_row rows) ≡ put_of (row_with key rows)
 find_puts [] rises key = refl
-find_puts (row ∷ rows) rises key = puts_more row rows key (find_puts rows rises.1 key) (none_above row.key rows rises.0) (is_put_row row) refl (bytes_eq row.key key) refl
+find_puts (row ∷ rows) rises key = puts_more row rows key (find_puts rows rises.1 key) (none_above _ rows rises.0) _ refl _ refl
 
 -- a row that is no put gives no value
 put_value : (o : Option StoredRow) → option_and_then value_given (put_of o) ≡ option_and_then value_given o
 put_value None = refl
-put_value (Some row) = go (row.kind == 1) refl
+put_value (Some row) = go _ refl
   where
     go : (b : Bool) → (row.kind == 1) ≡ b → option_and_then value_given (put_of (Some row)) ≡ value_given row
     go true put = ap (option_and_then value_given) (cond-true _ _ _ put)
-    go false other = ap (option_and_then value_given) (cond-false _ _ _ other) ∙ sym (cond-false _ _ _ other)
+    go false other = cc (cond-false _ _ _ other)
 
 -- the map of the newest rows that are puts is that of all rows
 pub merged_map : (rows : List StoredRow) → map_of_rows (merged_rows rows) ≡ map_of_rows rows
 unfolding merged_rows
 merged_map rows =
     same_map nat_list_cmp_total (slice_cmp-IsAntisymmetric nat_cmp-IsAntisymmetric) (map_of_rows (filter is_put_row (newest_rows rows))) (map_of_rows rows)
-    (λ key.
-    newest_law (filter is_put_row (newest_rows rows)) key
+    (λ key. newest_law (filter is_put_row (newest_rows rows)) key
     ∙ ap (option_and_then value_given) (newest_rising (filter is_put_row (newest_rows rows)) (rises_puts (newest_rows rows) (rises_newest rows)) key
     ∙ find_puts (newest_rows rows) (rises_newest rows) key)
     ∙ put_value (row_with key (newest_rows rows))
@@ -291,10 +272,9 @@ charge_more row rows = sum_by-cons (λ (r : StoredRow). cond (r.kind == 1) 1 0) 
 charge_older : (row : StoredRow) (rows : List StoredRow) → put_count (with_older row rows) ≤ put_count (row ∷ rows)
 charge_older row [] = omega arith
 charge_older row (first ∷ rest) =
-    let further = charge_older row rest in
     older_cases (λ rows. put_count rows ≤ put_count (row ∷ first ∷ rest)) row first rest
     (λ is. omega arith) (λ is. omega (arith, charge_more row (first ∷ rest)))
-    (λ is. omega (arith, further, charge_more row (first ∷ rest), charge_more first rest, charge_more row rest, charge_more first (with_older row rest)))
+    (λ is. omega (arith, charge_older row rest, charge_more row (first ∷ rest), charge_more first rest, charge_more row rest, charge_more first (with_older row rest)))
 
 charge_newest : (rows : List StoredRow) → put_count (newest_rows rows) ≤ put_count rows
 charge_newest [] = omega arith
@@ -315,8 +295,7 @@ charge_puts (row ∷ rows) =
 length_older : (row : StoredRow) (rows : List StoredRow) → length (with_older row rows) ≤ length rows + 1
 length_older row [] = omega arith
 length_older row (first ∷ rest) =
-    let further = length_older row rest in
-    older_cases (λ rows. length rows ≤ length (first ∷ rest) + 1) row first rest (λ is. omega arith) (λ is. omega arith) (λ is. omega (arith, further))
+    older_cases (λ rows. length rows ≤ length (first ∷ rest) + 1) row first rest (λ is. omega arith) (λ is. omega arith) (λ is. omega (arith, length_older row rest))
 
 length_newest : (rows : List StoredRow) → length (newest_rows rows) ≤ length rows
 length_newest [] = omega arith
@@ -326,14 +305,7 @@ length_newest (row ∷ rows) = omega (arith, length_older row (newest_rows rows)
 
 pub merged_law : MergedLaw
 unfolding merged_rows
-merged_law rows =
-    let counts = charge_puts (newest_rows rows) in
-    record {
-      rising = nothing_rising (filter is_put_row (newest_rows rows)) (rises_puts (newest_rows rows) (rises_newest rows));
-      same_map = merged_map rows;
-      charge = omega (arith, counts.0, charge_newest rows);
-      counted = counts.1 ∙ sym counts.0;
-    }
+merged_law rows = search (arith, charge_puts, nothing_rising, rises_puts, rises_newest, merged_map, charge_newest)
 
 pub key_count_law : KeyCountLaw
 unfolding merged_rows

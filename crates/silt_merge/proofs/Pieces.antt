@@ -1,31 +1,28 @@
 -- Parts of a region that were read together, as parts of the bytes that were read.
-use Rattle.std.proofs.Common.{◌≡◌, ℕ, zero, suc, ◌+◌, ◌-◌, ◌*◌, ◌<◌, ◌≤◌, List, [], ◌∷◌, ◌++◌, get_or, length, take, slice_range, refl, sym, subst, ap, ◌∙◌, arith, length-append}
+use Rattle.silt_merge.proofs.Common.{◌≡◌, ℕ, zero, suc, ◌+◌, ◌-◌, ◌*◌, ◌<◌, ◌≤◌, List, [], ◌∷◌, ◌++◌, get_or, length, refl, sym, subst, ap, ◌∙◌, arith, Shape, row_len, StoredRow, slot_row}
+use Rattle.silt_merge.proofs.Common.{AreEntries, AreSlots, parts_from}
+use Rattle.std.proofs.Common.{slice_range, length-append}
 use Rattle.std.proofs.Math.Seq.{take-append_seam}
 use Rattle.std.proofs.lemmas.List.Edits.{length-between}
-use Rattle.silt_disk.specs.Layout.{Shape, row_len}
-use Rattle.silt_frame.specs.Rows.{StoredRow, row_of}
-use Rattle.silt_hash_store.specs.Slots.{HoldsSlots, slot_row}
+use Rattle.silt_frame.specs.Rows.{row_of}
+use Rattle.silt_hash_store.specs.Slots.{HoldsSlots}
 use Rattle.silt_log.proofs.Parts.{slice_of_slice}
 use Rattle.silt_sorted_store.specs.Indexing.{HoldsEntries}
 use Rattle.silt_sorted_store.specs.OnlyRow.{HasEntry}
 use Rattle.silt_sorted_store.proofs.Entries.{part_inside}
-use Rattle.silt_merge.specs.Pieces.{AreEntries, AreSlots, parts_from}
 
 -- a part of a front
 part_of_front : (front rest : List ℕ) (from count : ℕ) → from + count ≤ length front → slice_range (front ++ rest) from (from + count) ≡ slice_range front from (from + count)
 part_of_front front rest from count inside =
     let none : 0 + from ≡ from = omega arith in
     let long : 0 + length front - 0 ≡ length front = omega arith in
-    ap (λ n. slice_range (front ++ rest) n (n + count)) (sym none)
-    ∙ slice_of_slice (front ++ rest) 0 (length front) from count inside (omega (arith, length-append front rest))
-    ∙ ap (λ l. slice_range l from (from + count)) (ap (λ n. take n (front ++ rest)) long ∙ take-append_seam front rest)
+    cc (slice_of_slice (front ++ rest) 0 (length front) from count inside (omega (arith, length-append front rest)), take-append_seam front rest)
 
 -- what bytes hold of entries, they hold with others behind them
 pub holds_front : (rows : List StoredRow) (place count len : ℕ) (front rest : List ℕ) → count * len ≤ length front
     → HoldsEntries rows place count len front → HoldsEntries rows place count len (front ++ rest)
 holds_front rows place count len front rest long holds = λ i below.
-    let inside = part_inside 0 len count i (length front) (omega (arith, long)) below in
-    subst (HasEntry rows (place + i)) (sym (part_of_front front rest (i * len) len (omega (arith, inside)))) (holds i below)
+    rw (← (part_of_front front rest (i * len) len (omega (arith, part_inside 0 len count i (length front) (omega (arith, long)) below)))) at (holds i below)
 
 -- parts of bytes that hold entries are these
 entries_from : (rows : List StoredRow) (bytes : List ℕ) (place len at count : ℕ) → ((i : ℕ) → at ≤ i → i < at + count → HasEntry rows (place + i) (slice_range bytes (i * len) (i * len + len)))
@@ -38,13 +35,12 @@ entries_from rows bytes place len at (suc count) each = (
 
 -- all of them
 pub are_entries : (rows : List StoredRow) (bytes : List ℕ) (place len count : ℕ) → HoldsEntries rows place count len bytes → AreEntries rows place (parts_from bytes len 0 count)
-are_entries rows bytes place len count holds =
-    subst (λ p. AreEntries rows p (parts_from bytes len 0 count)) (omega arith) (entries_from rows bytes place len 0 count (λ i low high. holds i (omega arith)))
+are_entries rows bytes place len count holds = search (arith, entries_from)
 
 -- there are so many parts
 pub part_count : (bytes : List ℕ) (len at count : ℕ) → length (parts_from bytes len at count) ≡ count
 part_count bytes len at zero = refl
-part_count bytes len at (suc count) = let rest = part_count bytes len (at + 1) count in omega (arith, rest)
+part_count bytes len at (suc count) = omega (arith, part_count bytes len (at + 1) count)
 
 -- the bytes of the first of them
 pub first_part : (bytes : List ℕ) (len at count : ℕ) → 0 < count → get_or (parts_from bytes len at count) 0 [] ≡ slice_range bytes (at * len) (at * len + len)
@@ -54,8 +50,7 @@ first_part bytes len at (suc count) some = refl
 -- it has its length
 pub part_long : (bytes : List ℕ) (len at count most : ℕ) → 0 < count → at + count ≤ most → most * len ≤ length bytes → length (slice_range bytes (at * len) (at * len + len)) ≡ len
 part_long bytes len at count most some within fits =
-    let inside = part_inside 0 len most at (length bytes) (omega (arith, fits)) (omega (arith, some, within)) in
-    let part = length-between bytes (at * len) (at * len + len) (omega (arith, inside)) in
+    let part = length-between bytes (at * len) (at * len + len) (omega (arith, part_inside 0 len most at (length bytes) (omega (arith, fits)) (omega (arith, some, within)))) in
     omega (arith, part)
 
 -- the first of parts that encode entries is the entry in its place
@@ -70,8 +65,7 @@ pub slots_front : (s : Shape) (region slot count : ℕ) (image front rest : List
     → HoldsSlots s region image slot count front → HoldsSlots s region image slot count (front ++ rest)
 slots_front s region slot count image front rest long holds = λ i below.
     let len : ℕ = row_len s in
-    let inside = part_inside 0 len count i (length front) (omega (arith, long)) below in
-    holds i below ∙ ap row_of (sym (part_of_front front rest (i * len) len (omega (arith, inside))))
+    holds i below ∙ ap row_of (sym (part_of_front front rest _ len (omega (arith, part_inside 0 len count i (length front) (omega (arith, long)) below))))
 
 -- parts of bytes that hold slots are these
 slots_from : (s : Shape) (region slot at count : ℕ) (image bytes : List ℕ) → slot + at + count ≤ 4 * s.buckets
@@ -87,9 +81,7 @@ slots_from s region slot at (suc count) image bytes within each = (
 -- all of them
 pub are_slots : (s : Shape) (region slot count : ℕ) (image bytes : List ℕ) → slot + count ≤ 4 * s.buckets → HoldsSlots s region image slot count bytes
     → AreSlots s region image slot (parts_from bytes (row_len s) 0 count)
-are_slots s region slot count image bytes within holds =
-    subst (λ n. AreSlots s region image n (parts_from bytes (row_len s) 0 count)) (omega arith)
-    (slots_from s region slot 0 count image bytes (omega (arith, within)) (λ i low high. holds i (omega arith)))
+are_slots s region slot count image bytes within holds = search (arith, slots_from)
 
 -- the first of them shows the row in its slot
 pub first_slot : (s : Shape) (region slot : ℕ) (image : List ℕ) (parts : List (List ℕ)) → 0 < length parts → AreSlots s region image slot parts
@@ -107,4 +99,4 @@ slots_same s region old new slot (part ∷ parts) same are = ((are.0.0, same slo
 
 -- a front of a buffer, as long as what is read
 pub front_fits : (next len other room : ℕ) → len ≡ other → next * other ≤ room → next * len ≤ room
-front_fits next len other room same fits = let it = ap (λ (n : ℕ). next * n) same in omega (arith, it, fits)
+front_fits next len other room same fits = omega (arith, ap (λ (n : ℕ). next * n) same, fits)

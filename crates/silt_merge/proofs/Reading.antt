@@ -1,18 +1,10 @@
 -- What the read of a row gives.
-use Rattle.std.proofs.Common.{◌≡◌, ℕ, ◌<◌, List, [], ◌++◌, length, get_or, drop, Option, Some, None, Result, Ok, Err, IfSome, OnOk, refl, sym, ap, ◌∙◌, arith, All}
+use Rattle.silt_merge.proofs.Common.{◌≡◌, ℕ, ◌<◌, List, [], ◌++◌, length, get_or, Option, Some, None, Ok, Err, refl, sym, ap, ◌∙◌, arith, Shape, slot_row, HashState, kind_byte, StoredRow}
+use Rattle.silt_merge.proofs.Common.{Row, IsRowAt, ReadsRow, regions_of, Source}
+use Rattle.std.proofs.Common.{Result, IfSome, OnOk, All}
 use Rattle.std.proofs.lemmas.List.{drop_at, get_or-map, take_at}
-use Rattle.silt_disk.specs.Layout.{Shape}
-use Rattle.silt_hash_store.specs.Slots.{slot_row}
-use Rattle.silt_hash_store.specs.State.{HashState}
-use Rattle.silt_frame.specs.Frame.{kind_byte}
-use Rattle.silt_frame.specs.Rows.{StoredRow}
 use Rattle.silt_frame.specs.declared.key.Kind.{Kind}
 use Rattle.silt_frame.specs.declared.key.Kind.TheVariants.{Put, Delete}
-use Rattle.silt_frame.specs.declared.key.Row.{Row}
-use Rattle.silt_hash_store.specs.Lookup.{IsRowAt}
-use Rattle.silt_merge.specs.Choice.{ReadsRow}
-use Rattle.silt_merge.specs.Rows.{regions_of}
-use Rattle.silt_merge.specs.declared.source.Source.{Source}
 
 -- some hash store
 abbrev pub blank : HashState
@@ -25,7 +17,7 @@ weaker_on_ok (Err e) step is = tt
 
 -- a store of a list, by its place
 pub store_at : (stores : List HashState) (place : ℕ) (store : HashState) → place < length stores → store ≡ get_or stores place store → get_or (regions_of stores) place 0 ≡ store.region
-store_at stores place store below is = get_or-map (λ (s : HashState). s.region) stores place store 0 below ∙ ap (λ (s : HashState). s.region) (sym is)
+store_at stores place store below is = cc (get_or-map (λ (s : HashState). s.region) stores place store 0 below)
 
 -- a key and the value of the row that decides
 pub row_read : {A E : Type 0} (result : Result A E) (shape : Shape) (image : List ℕ) (stores : List HashState) (store : HashState)
@@ -35,10 +27,8 @@ pub row_read : {A E : Type 0} (result : Result A E) (shape : Shape) (image : Lis
 row_read result shape image stores store key source old front value below is shapes same long read =
     let own_shape : store.shape ≡ shape = ap (λ (s : HashState). s.shape) is ∙ shapes source.store store below in
     weaker_on_ok result (λ got puts.
-    let its : value ≡ (slot_row shape (get_or (regions_of stores) source.store 0) image source.slot).value =
-    got ∙ ap (λ (s : Shape). (slot_row s store.region image source.slot).value) own_shape ∙ ap (λ r. (slot_row shape r image source.slot).value) (sym (store_at stores source.store store below is)) in
-    ap (λ k. let row : StoredRow = record { kind = 1; key = k; value = drop 20 (front ++ value) } in row) (take_at front value 20 long ∙ same)
-    ∙ ap (λ v. let row : StoredRow = record { kind = 1; key = key; value = v } in row) (drop_at front value 20 long ∙ its)) read
+    let its : value ≡ (slot_row shape (get_or (regions_of stores) source.store 0) image source.slot).value = cc (store_at stores source.store store below is) in
+    cc (take_at front value 20 long, drop_at front value 20 long)) read
 
 -- what holds of each source holds of a choice's
 pub each_source : {P : Source → Type 0} (o : Option Source) → ((source : Source) → o ≡ Some source → P source) → IfSome o P

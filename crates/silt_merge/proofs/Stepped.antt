@@ -1,32 +1,31 @@
 -- What a step does, at its exits.
-use Rattle.std.proofs.Common.{◌≡◌, Some, None, ℕ, ◌+◌, ◌*◌, ◌-◌, ◌<◌, Bool, List, length, get_or, Ok, Err, inl, inr, refl, sym, subst, ap, ◌∙◌, arith, Result}
-use Rattle.std.proofs.lemmas.Bool.{cond-false, cond-true, le-ltb, lt-ltb}
-use Rattle.silt_disk.specs.Disk.{ChangesWithin, CountsFault, Makes, MakesAtMost, size}
-use Rattle.silt_disk.specs.Layout.{entry_len, sorted_at, sorted_size}
+use Rattle.silt_merge.proofs.Common.{◌≡◌, Some, None, ℕ, ◌+◌, ◌*◌, ◌-◌, ◌<◌, Bool, List, length, get_or, Ok, Err, inl, inr, refl, sym, subst, ap, ◌∙◌, arith, cond-false, cond-true, le-ltb}
+use Rattle.silt_merge.proofs.Common.{size, entry_len, sorted_at, Place, HashDigest, SortedDigest, HashState, SortedState, MatchesDigests, HasMerged, IsHeldMerge, MergeState, written_after}
+use Rattle.silt_merge.proofs.Common.{TakesStep, NoMemory}
+use Rattle.std.proofs.Common.{Result}
+use Rattle.std.proofs.lemmas.Bool.{lt-ltb}
+use Rattle.silt_disk.specs.Disk.{ChangesWithin, CountsFault, Makes, MakesAtMost}
+use Rattle.silt_disk.specs.Layout.{sorted_size}
 use Rattle.silt_disk.specs.declared.disk.Disk.{Ghosts}
 use Rattle.silt_disk.proofs.Costs.{most_none}
 use Rattle.silt_disk.proofs.Images.{within_refl, within_wider}
 use Rattle.silt_disk.proofs.Regions.{up_least}
-use Rattle.silt_event.specs.declared.place.Place.{Place}
-use Rattle.silt_event.specs.declared.place.Place.TheVariants.{HashDigest, SortedDigest}
-use Rattle.silt_hash_store.specs.State.{HashState}
-use Rattle.silt_sorted_store.specs.State.{SortedState, sorted_entry_at}
-use Rattle.silt_merge.specs.Comparing.{HasCompared, MatchesDigests}
-use Rattle.silt_merge.specs.Merging.{HasMerged, IsSameMerge}
-use Rattle.silt_merge.specs.State.{IsHeldMerge, LastRises, MergeState, steps_of, written_after}
-use Rattle.silt_merge.specs.Steps.{FailsMerge, Finds, TakesMemory, TakesStep, damaged_place}
+use Rattle.silt_sorted_store.specs.State.{sorted_entry_at}
+use Rattle.silt_merge.specs.Comparing.{HasCompared}
+use Rattle.silt_merge.specs.Merging.{IsSameMerge}
+use Rattle.silt_merge.specs.State.{LastRises, steps_of}
+use Rattle.silt_merge.specs.Steps.{FailsMerge, Finds, TakesMemory, damaged_place}
 use Rattle.silt_merge.specs.declared.merge.StepError.{StepError}
-use Rattle.silt_merge.specs.declared.merge.StepError.TheVariants.{Read, Write, NoMemory, Damaged}
+use Rattle.silt_merge.specs.declared.merge.StepError.TheVariants.{Read, Write, Damaged}
 use Rattle.silt_merge.proofs.Comparing.{compared_with}
-use Rattle.silt_merge.proofs.Making.{grown, made_none, stayed}
+use Rattle.silt_merge.proofs.Making.{made_none, stayed}
 use Rattle.silt_merge.proofs.Reading.{store_at}
 
 -- what is damaged while a merge gathers
 pub gathering_place : (stores : List HashState) (merge : MergeState) (store : HashState) (region : ℕ) → merge.store < merge.stores
     → length stores ≡ merge.stores → store ≡ get_or stores merge.store store → region ≡ store.region
     → HashDigest region ≡ damaged_place stores merge
-gathering_place stores merge store region below counted here is =
-    ap HashDigest (is ∙ sym (store_at stores merge.store store (omega (arith, below, counted)) here)) ∙ sym (cond-true _ _ _ (lt-ltb merge.store merge.stores below))
+gathering_place stores merge store region below counted here is = search (arith, store_at, cond-true, lt-ltb)
 
 -- and what is once all slots are gathered
 pub deciding_place : (stores : List HashState) (merge : MergeState) → merge.store ≡ merge.stores → SortedDigest ≡ damaged_place stores merge
@@ -46,22 +45,7 @@ module _ {D F : Type 0} (facts : Ghosts D F) (stores : List HashState) (sorted :
       → ((place : Place) → before.damaged ≡ Some place → (let r : Result T (StepError F) = Err error in r) ≡ Err (Damaged place))
       → IsHeldMerge before → FailsMerge facts stores sorted disk disk before before error
       → TakesStep {T = T} facts stores sorted digest disk disk before before (Err error)
-  idle {T} disk before error stuck held fails =
-      let at_most : MakesAtMost facts.writes facts.syncs 1 0 disk disk = most_none in
-      record {
-        stuck = stuck;
-        size = refl;
-        changes = within_refl _ _ (facts.content disk);
-        region = within_refl _ _ (facts.content disk);
-        same = same_merge before;
-        held = held;
-        rises = inl (refl, refl);
-        gathers = λ below. refl;
-        grew = stayed before.written before.written refl;
-        goes = tt;
-        most = at_most;
-        fails = fails;
-      }
+  idle {T} disk before error stuck held fails = search (arith, most_none, within_refl, same_merge, stayed)
 
   -- one that was refused before it wrote
   pub refused : {T : Type 0} (disk : D) (before after : MergeState) (error : StepError F) → after ≡ before → IsHeldMerge before → before.damaged ≡ None
@@ -83,31 +67,14 @@ module _ {D F : Type 0} (facts : Ghosts D F) (stores : List HashState) (sorted :
       → after.last ≡ before.last → after.written ≡ before.written → steps_of after ≡ steps_of before + 1 → before.damaged ≡ None
       → (HasMerged (facts.content disk) stores sorted before → HasMerged (facts.content disk) stores sorted after) → (HasCompared stores sorted digest before → HasCompared stores sorted digest after)
       → Finds (facts.content disk) stores sorted digest before after → TakesStep facts stores sorted digest disk disk before after (Ok x)
-  went_on disk before after x same held last written steps sound merged compared finds =
-      let none : Makes facts.writes facts.syncs (after.written - before.written) 0 disk disk = made_none before.written after.written written in
-      record {
-        stuck = λ place found. none_stuck before sound place found;
-        size = refl;
-        changes = within_refl _ _ (facts.content disk);
-        region = within_refl _ _ (facts.content disk);
-        same = same;
-        held = held;
-        rises = inl (last, written);
-        gathers = λ below. written;
-        grew = stayed before.written after.written written;
-        goes = record { steps = steps; made = none; failures = refl; merged = merged; compared = compared; finds = finds };
-        most = tt;
-        fails = tt;
-      }
+  went_on disk before after x same held last written steps sound merged compared finds = search (arith, made_none, none_stuck, within_refl, stayed)
 
   module _ (old new : D) (before after : MergeState) (sound : before.damaged ≡ None) (sizes : size (facts.content new) ≡ size (facts.content old))
       (all : before.store ≡ before.stores) (same : IsSameMerge before after) (held : IsHeldMerge after)
       (entry : ChangesWithin (sorted_entry_at before.shape before.region before.written) (entry_len before.shape) (facts.content old) (facts.content new))
       (within : ChangesWithin (sorted_at before.shape before.region) (before.shape.sorted_capacity * entry_len before.shape) (facts.content old) (facts.content new)) where
     in_region : ChangesWithin (sorted_at before.shape before.region) (sorted_size before.shape) (facts.content old) (facts.content new)
-    in_region =
-        let least = up_least (before.shape.sorted_capacity * entry_len before.shape) in
-        within_wider (sorted_at before.shape before.region) (sorted_size before.shape) (omega arith) (omega (arith, least)) within
+    in_region = search (arith, up_least, within_wider)
 
     -- a step that decided a key, whose entry is written or not
     pub decided_on : {T : Type 0} (is_written : Bool) (x : T) → LastRises before after → after.written ≡ written_after is_written before.written
@@ -115,39 +82,13 @@ module _ {D F : Type 0} (facts : Ghosts D F) (stores : List HashState) (sorted :
         → facts.failures new ≡ facts.failures old → steps_of after ≡ steps_of before + 1 → (HasMerged (facts.content old) stores sorted before → HasMerged (facts.content new) stores sorted after)
         → (HasCompared stores sorted digest before → HasCompared stores sorted digest after) → Finds (facts.content old) stores sorted digest before after
         → TakesStep facts stores sorted digest old new before after (Ok x)
-    decided_on is_written x rises written made failures steps merged compared finds = record {
-      stuck = λ place found. none_stuck before sound place found;
-      size = sizes;
-      changes = entry;
-      region = in_region;
-      same = same;
-      held = held;
-      rises = rises;
-      gathers = λ below. absurd (omega (arith, below, all));
-      grew = grown is_written before.written after.written written;
-      goes = record { steps = steps; made = made; failures = failures; merged = merged; compared = compared; finds = finds };
-      most = tt;
-      fails = tt;
-    }
+    decided_on is_written x rises written made failures steps merged compared finds = search (arith, none_stuck, in_region)
 
     -- a step whose write failed
     pub broke : {T : Type 0} (fault : F) → after.last ≡ before.last → after.written ≡ before.written → MakesAtMost facts.writes facts.syncs 1 0 old new
         → CountsFault facts.failures facts.gave old new fault
         → TakesStep {T = T} facts stores sorted digest old new before after (Err (Write fault))
-    broke fault last written most counts = record {
-      stuck = λ place found. none_stuck before sound place found;
-      size = sizes;
-      changes = entry;
-      region = in_region;
-      same = same;
-      held = held;
-      rises = inl (last, written);
-      gathers = λ below. written;
-      grew = stayed before.written after.written written;
-      goes = tt;
-      most = most;
-      fails = counts;
-    }
+    broke fault last written most counts = search (arith, none_stuck, in_region, stayed)
 
   -- ---- what is read ahead first
 
@@ -204,27 +145,4 @@ module _ {D F : Type 0} (facts : Ghosts D F) (stores : List HashState) (sorted :
     pub read_and_failed : {T : Type 0} (mid after : MergeState) (slots_after ahead_after : List (List ℕ)) (error : StepError F)
         → after ≡ record mid { slots = slots_after; ahead = ahead_after } → (mid ≡ read → after ≡ before) → IsHeldMerge after
         → TakesStep {T = T} facts stores sorted digest old new read mid (Err error) → TakesStep {T = T} facts stores sorted digest old new before after (Err error)
-    read_and_failed {T} mid after slots_after ahead_after error is_after back held is =
-        let written : after.written ≡ mid.written = ap (λ (m : MergeState). m.written) is_after in
-        let last : after.last ≡ mid.last = ap (λ (m : MergeState). m.last) is_after in
-        record {
-          stuck = is.stuck;
-          size = is.size;
-          changes = is.changes;
-          region = is.region;
-          same = record {
-            shape = ap (λ (m : MergeState). m.shape) is_after ∙ is.same.shape;
-            region = ap (λ (m : MergeState). m.region) is_after ∙ is.same.region;
-            stores = ap (λ (m : MergeState). m.stores) is_after ∙ is.same.stores;
-          };
-          held = held;
-          rises = elim is.rises [
-            | inl stays ↦ inl (last ∙ stays.0, written ∙ stays.1)
-            | inr goes ↦ inr (goes.0, last ∙ goes.1, goes.2)
-          ];
-          gathers = λ below. written ∙ is.gathers below;
-          grew = (omega (arith, written, is.grew), omega (arith, written, is.grew));
-          goes = tt;
-          most = is.most;
-          fails = fails_before mid after error back is.fails;
-        }
+    read_and_failed {T} mid after slots_after ahead_after error is_after back held is = search (arith, fails_before)

@@ -1,31 +1,17 @@
 -- What each step of a merge leaves.
-use Rattle.std.proofs.Common.{◌≡◌, ◌≢◌, ℕ, ◌+◌, ◌*◌, ◌<◌, ◌≤◌, ◌⊎◌, eqb, Bool, true, false, cond, IsTrue, List, [], ◌∷◌, ◌++◌, length, get_or, take, Option}
-use Rattle.std.proofs.Common.{Some, None, option_map, inl, inr, refl, sym, subst, ap, ◌∙◌, arith, bytes_eq, take_all}
-use Rattle.std.specs.Option.{option_or}
-use Rattle.std.proofs.lemmas.Bool.{cases_Bool, cond-true, cond-false, eq-eqb, eqb-true, le-ltb}
-use Rattle.silt_disk.specs.Disk.{Content}
-use Rattle.silt_disk.specs.Layout.{Shape, row_len}
-use Rattle.silt_frame.specs.declared.key.Key.{Key}
-use Rattle.silt_frame.specs.declared.key.Row.{Row}
-use Rattle.silt_hash_store.specs.Lookup.{IsRowAt}
-use Rattle.silt_hash_store.specs.Slots.{rows_before, slot_row}
-use Rattle.silt_hash_store.specs.State.{HashState}
-use Rattle.silt_event.specs.Rows.{newest_row}
-use Rattle.silt_sorted_store.specs.State.{sorted_rows, SortedState}
-use Rattle.silt_frame.specs.Rows.{StoredRow, entries_bytes, keys_of, rows_bytes}
-use Rattle.silt_merge.specs.Choice.{Gathers, own_source}
-use Rattle.silt_merge.specs.Merging.{HasMerged, decided_rows, gathered_rows, source_row}
-use Rattle.silt_merge.specs.Pieces.{AreEntries, AreSlots, parts_after}
-use Rattle.silt_merge.specs.Rows.{entries_in, has_row_with, regions_of}
-use Rattle.silt_merge.specs.State.{IsHeldMerge, MergeState, ends_store, input_after, slot_after, source_at}
-use Rattle.silt_trie.specs.Building.{BuilderState, IsBuildingOf, is_above}
-use Rattle.silt_merge.specs.declared.source.Source.{Source}
+use Rattle.silt_merge.proofs.Common.{◌≡◌, ◌≢◌, ℕ, ◌+◌, ◌*◌, ◌<◌, ◌≤◌, ◌⊎◌, eqb, Bool, true, false, cond, IsTrue, List, [], ◌∷◌, ◌++◌, length, get_or, take, Option, Some, None, inl, inr}
+use Rattle.silt_merge.proofs.Common.{refl, sym, subst, ap, ◌∙◌, arith, option_or, cases_Bool, cond-true, cond-false, eq-eqb, eqb-true, le-ltb, Content, Shape, row_len, Key, Row, IsRowAt}
+use Rattle.silt_merge.proofs.Common.{slot_row, HashState, newest_row, SortedState, StoredRow, entries_bytes, keys_of, rows_bytes, Gathers, HasMerged, AreSlots, parts_after, entries_in}
+use Rattle.silt_merge.proofs.Common.{has_row_with, regions_of, IsHeldMerge, MergeState, ends_store, input_after, slot_after, source_at, BuilderState, IsBuildingOf, is_above, Source, Holds}
+use Rattle.silt_merge.proofs.Common.{Sha1, HasTaken, Taken}
+use Rattle.std.proofs.Common.{take_all}
+use Rattle.silt_hash_store.specs.Slots.{rows_before}
+use Rattle.silt_sorted_store.specs.State.{sorted_rows}
+use Rattle.silt_merge.specs.Choice.{own_source}
+use Rattle.silt_merge.specs.Merging.{decided_rows, gathered_rows}
 use Rattle.silt_merge.proofs.Comparing.{slot_bytes}
 use Rattle.silt_merge.proofs.Elsewhere.{regions_count}
 use Rattle.silt_merge.proofs.Gathering.{next_gathered, none_gathered, waits_kept}
-use Rattle.sha1.specs.Sha1.{Holds}
-use Rattle.sha1.specs.declared.Sha1.{Sha1}
-use Rattle.silt_hasher.specs.Taking.{HasTaken, Taken}
 
 -- ---- at the start
 
@@ -70,14 +56,12 @@ started content stores sorted shape region waiting index slots ahead input hashe
   merged = λ honest sound. record {
     gathered = record {
       most = omega arith;
-      waits = λ key.
-          ap (λ l. option_map (source_row sorted.shape content.shown (regions_of stores)) (source_at l key)) none
-          ∙ sym (ap (λ l. newest_row l key) (none_gathered sorted.shape content.shown (regions_of stores) 0));
+      waits = λ key. cc (none_gathered sorted.shape content.shown (regions_of stores) 0);
       last = λ key some. absurd (cc);
-      slots = λ below. subst (AreSlots sorted.shape (get_or (regions_of stores) 0 0) content.shown 0) (sym none_read) tt;
-      ahead = subst (AreEntries (entries_in content.shown sorted) 0) (sym none_ahead) tt;
+      slots = λ below. rw none_read tt;
+      ahead = rw none_ahead tt;
       passes = λ place below. sym (le-ltb place 0 (omega arith));
-      slots_hashed = λ below. subst (λ (rows : List StoredRow). HasTaken input (rows_bytes rows)) (sym (no_slots sorted.shape (get_or (regions_of stores) 0 0) content.shown)) fresh_input;
+      slots_hashed = λ below. subst (λ (rows : List StoredRow). HasTaken input (rows_bytes rows)) (sym (no_slots _ _ _)) fresh_input;
       entries_hashed = λ past. fresh_input;
     };
     writes = nothing ∙ sym (take_all shape.sorted_capacity [] (omega arith));
@@ -86,7 +70,7 @@ started content stores sorted shape region waiting index slots ahead input hashe
 }
   where
     nothing : sorted_rows shape region 0 content.shown ≡ []
-    nothing = none_written shape region content.shown
+    nothing = none_written shape region _
 
 -- ---- a slot that is gathered
 
@@ -104,10 +88,7 @@ slots_more store slot slots = elim (cases_Bool (eqb (slot + 1) slots)) [
 
 -- the slot after one of a store
 after_last : (store slot slots : ℕ) → (slot_after store slot slots ≡ (store + 1, 0)) ⊎ ((slot_after store slot slots ≡ (store, slot + 1)) × (slot + 1 ≢ slots))
-after_last store slot slots = elim (cases_Bool (eqb (slot + 1) slots)) [
-  | inl last ↦ inl (cond-true _ _ _ last)
-  | inr other ↦ inr (cond-false _ _ _ other, λ same. let is : eqb (slot + 1) slots ≡ true = eq-eqb (slot + 1) slots same in absurd (cc))
-]
+after_last store slot slots = search (arith, cases_Bool, cond-true, cond-false, eq-eqb)
 
 -- a row that waits names a slot of the stores
 kept_inside : (merge : MergeState) (row : Option Row) (after : List (Key × Source)) → IsHeldMerge merge → merge.store < merge.stores → Gathers merge.store merge.slot row merge.waiting after
@@ -117,7 +98,7 @@ kept_inside merge (Some row) after held below keeps key source is =
     let go : (o : Option Source) → source_at merge.waiting key ≡ o → option_or o (own_source merge.store merge.slot row key) ≡ Some source
     → (source.store < merge.stores) × (source.slot < 4 * merge.shape.buckets) = elim [
       | Some other ↦ λ was found. let same : other ≡ source = cc in let inside = held.inside key source (was ∙ ap Some same) in (inside.store, inside.slot)
-      | None ↦ λ was found. own_inside (bytes_eq row.key.0 key) found
+      | None ↦ λ was found. own_inside _ found
     ] in
     go (source_at merge.waiting key) refl (sym (keeps key) ∙ is)
   where
@@ -125,7 +106,7 @@ kept_inside merge (Some row) after held below keeps key source is =
         → (source.store < merge.stores) × (source.slot < 4 * merge.shape.buckets)
     own_inside true found =
         let same : record { kind = row.kind; store = merge.store; slot = merge.slot } ≡ source = cc in
-        subst (λ (s : Source). (s.store < merge.stores) × (s.slot < 4 * merge.shape.buckets)) same (below, held.slot)
+        rw (← same) (below, held.slot)
     own_inside false found = absurd (cc)
 
 -- a merge with one slot more
@@ -135,8 +116,8 @@ pub gathered_held : (merge : MergeState) (row : Option Row) (after : List (Key �
     → IsHeldMerge (record merge { store = next.0; slot = next.1; waiting = after; slots = slots; input = input })
 gathered_held merge row after next slots input held below keeps long is =
     let count : next.0 * (4 * merge.shape.buckets) + next.1 ≡ merge.store * (4 * merge.shape.buckets) + merge.slot + 1 =
-    ap (λ (p : ℕ × ℕ). p.0 * (4 * merge.shape.buckets) + p.1) is ∙ slots_more merge.store merge.slot (4 * merge.shape.buckets) in
-    let place = where_next (after_last merge.store merge.slot (4 * merge.shape.buckets)) in
+    cc (slots_more merge.store merge.slot (4 * merge.shape.buckets)) in
+    let place = where_next (after_last _ _ _) in
     record {
       there = held.there;
       store = place.0;
@@ -172,13 +153,13 @@ slots_next s regions image store slot [] are = tt
 slots_next s regions image store slot (part ∷ []) are = tt
 slots_next s regions image store slot (part ∷ other ∷ slots) are =
     let rest : AreSlots s (get_or regions store 0) image (slot + 1) (other ∷ slots) = are.1 in
-    elim (after_last store slot (4 * s.buckets)) [
-      | inl last ↦ absurd (not_last (eqb (slot + 1) (4 * s.buckets)) refl last rest.0.0)
+    elim (after_last store slot _) [
+      | inl last ↦ absurd (not_last _ refl last rest.0.0)
       | inr further ↦ subst (λ (p : ℕ × ℕ). AreSlots s (get_or regions p.0 0) image p.1 (other ∷ slots)) (sym further.0) rest
     ]
   where
     not_last : (b : Bool) → eqb (slot + 1) (4 * s.buckets) ≡ b → slot_after store slot (4 * s.buckets) ≡ (store + 1, 0) → slot + 1 < 4 * s.buckets → ⊥
-    not_last true same last below = let all : slot + 1 ≡ 4 * s.buckets = eqb-true (slot + 1) (4 * s.buckets) same in omega (arith, all, below)
+    not_last true same last below = omega (arith, eqb-true (slot + 1) (4 * s.buckets) same, below)
     not_last false other last below =
         let further : slot_after store slot (4 * s.buckets) ≡ (store, slot + 1) = cond-false _ _ _ other in
         let zero_slot : slot + 1 ≡ 0 = sym (ap (λ (p : ℕ × ℕ). p.1) further) ∙ ap (λ (p : ℕ × ℕ). p.1) last in
@@ -192,19 +173,18 @@ input_next : (s : Shape) (regions image : List ℕ) (store slot : ℕ) (slots : 
     × HasTaken input (rows_bytes (rows_before s (get_or regions (slot_after store slot (4 * s.buckets)).0 0) image (slot_after store slot (4 * s.buckets)).1))
 input_next s regions image store slot slots input some long are holds = elim (cases_Bool (eqb (slot + 1) (4 * s.buckets))) [
   | inl last ↦
-      let nothing : HasTaken input [] = subst (λ b. HasTaken input (input_after b (rows_bytes (rows_before s (get_or regions store 0) image slot)) (get_or slots 0 []))) last holds in
+      let nothing : HasTaken input [] = rw last at holds in
       let next : slot_after store slot (4 * s.buckets) ≡ (store + 1, 0) = cond-true _ _ _ last in (
         λ same. nothing,
         subst (λ (p : ℕ × ℕ). HasTaken input (rows_bytes (rows_before s (get_or regions p.0 0) image p.1))) (sym next)
-            (subst (λ (rows : List StoredRow). HasTaken input (rows_bytes rows)) (sym (no_slots s (get_or regions (store + 1) 0) image)) nothing),
+            (subst (λ (rows : List StoredRow). HasTaken input (rows_bytes rows)) (sym (no_slots s _ image)) nothing),
       )
   | inr other ↦
-      let more : HasTaken input (rows_bytes (rows_before s (get_or regions store 0) image slot) ++ get_or slots 0 []) =
-      subst (λ b. HasTaken input (input_after b (rows_bytes (rows_before s (get_or regions store 0) image slot)) (get_or slots 0 []))) other holds in
+      let more : HasTaken input (rows_bytes (rows_before s (get_or regions store 0) image slot) ++ get_or slots 0 []) = rw other at holds in
       let next : slot_after store slot (4 * s.buckets) ≡ (store, slot + 1) = cond-false _ _ _ other in (
         λ same. let here : store ≡ store + 1 = sym (ap (λ (p : ℕ × ℕ). p.0) next) ∙ same in absurd (omega (arith, here)),
         subst (λ (p : ℕ × ℕ). HasTaken input (rows_bytes (rows_before s (get_or regions p.0 0) image p.1))) (sym next)
-            (subst (HasTaken input) (sym (slot_bytes s (get_or regions store 0) image slot slots some long are)) more),
+            (subst (HasTaken input) (sym (slot_bytes s _ image slot slots some long are)) more),
       )
 ]
 

@@ -1,32 +1,18 @@
 -- What a step does that gathers a slot, and one that decides a key.
-use Rattle.std.proofs.Common.{◌≡◌, ℕ, ◌+◌, ◌*◌, ◌<◌, nat_lt, Bool, true, false, IsTrue, List, [], ◌++◌, length, get_or, Option, Some, None, Ok, Err, ◌⊎◌, inl}
-use Rattle.std.proofs.Common.{inr, refl, sym, subst, ap, ◌∙◌, arith, All, is_some, IsSomeAnd}
-use Rattle.silt_disk.specs.Disk.{Content}
-use Rattle.silt_disk.specs.Layout.{Shape, entry_len, row_len}
+use Rattle.silt_merge.proofs.Common.{◌≡◌, ℕ, ◌+◌, ◌*◌, ◌<◌, nat_lt, Bool, true, false, IsTrue, List, [], ◌++◌, length, get_or, Option, Some, None, Ok, Err, ◌⊎◌, inl, inr, refl, sym, subst}
+use Rattle.silt_merge.proofs.Common.{ap, ◌∙◌, arith, Content, Shape, entry_len, row_len, HashDigest, SortedDigest, Key, Row, IsRowAt, slot_row, HashState, SortedState, entries_of, Gathers}
+use Rattle.silt_merge.proofs.Common.{IsNextEntry, MatchesDigests, AreSound, HasMerged, AreEntries, AreSlots, parts_after, regions_of, IsHeldMerge, MergeState, ends_entries, ends_store}
+use Rattle.silt_merge.proofs.Common.{finding, input_after, is_behind, slot_after, source_at, TakesStep, Source, NoMemory, HasTaken, Taken}
+use Rattle.std.proofs.Common.{All, is_some, IsSomeAnd}
 use Rattle.silt_disk.specs.declared.disk.Disk.{Ghosts}
-use Rattle.silt_event.specs.declared.place.Place.TheVariants.{HashDigest, SortedDigest}
-use Rattle.silt_frame.specs.Rows.{StoredRow, row_of}
-use Rattle.silt_frame.specs.declared.key.Key.{Key}
-use Rattle.silt_frame.specs.declared.key.Row.{Row}
-use Rattle.silt_hash_store.specs.Lookup.{IsRowAt}
-use Rattle.silt_hash_store.specs.Slots.{slot_row}
-use Rattle.silt_hash_store.specs.State.{HashState}
-use Rattle.silt_sorted_store.specs.State.{SortedState, entries_of}
-use Rattle.silt_merge.specs.Choice.{Gathers, IsNextEntry}
-use Rattle.silt_merge.specs.Comparing.{MatchesDigests, MayTake}
-use Rattle.silt_merge.specs.Merging.{AreSound, HasMerged}
-use Rattle.silt_merge.specs.Pieces.{AreEntries, AreSlots, parts_after}
-use Rattle.silt_merge.specs.Rows.{regions_of}
-use Rattle.silt_merge.specs.State.{IsHeldMerge, MergeState, ends_entries, ends_store, finding, input_after, is_behind, slot_after, source_at}
-use Rattle.silt_merge.specs.Steps.{GathersRow, TakesStep, damaged_place}
-use Rattle.silt_merge.specs.declared.source.Source.{Source}
-use Rattle.silt_merge.specs.declared.merge.StepError.TheVariants.{NoMemory}
+use Rattle.silt_frame.specs.Rows.{row_of}
+use Rattle.silt_merge.specs.Comparing.{MayTake}
+use Rattle.silt_merge.specs.Steps.{GathersRow, damaged_place}
 use Rattle.silt_merge.proofs.Comparing.{compared_key, compared_slot, entry_agrees, slot_agrees}
 use Rattle.silt_merge.proofs.Ending.{merged_behind, merged_noted}
 use Rattle.silt_merge.proofs.Pieces.{first_slot}
 use Rattle.silt_merge.proofs.Stepped.{deciding_place, gathering_place, refused, went_on}
 use Rattle.silt_merge.proofs.Stepping.{gathered_step, slots_more}
-use Rattle.silt_hasher.specs.Taking.{HasTaken, Taken}
 
 -- a slot that is gathered from a store, or not
 module _ {D F : Type 0} (facts : Ghosts D F) (stores : List HashState) (disk : D) (merge : MergeState) (store : HashState)
@@ -42,13 +28,13 @@ module _ {D F : Type 0} (facts : Ghosts D F) (stores : List HashState) (disk : D
       ⊎ ((finding fits (HashDigest region) ≡ Some (damaged_place stores merge)) × (MatchesDigests content stores sorted digest merge → ⊥))
   slot_finds region true region_is may sorted digest = inl refl
   slot_finds region false region_is may sorted digest =
-      inr (ap Some (gathering_place stores merge store region below counted here region_is), λ matches. slot_agrees content stores sorted digest merge matches store below some long shapes here may)
+      inr (ap Some (gathering_place stores merge store region below counted here region_is), λ matches. slot_agrees _ stores sorted digest merge matches store below some long shapes here may)
 
   -- the row in the slot, by the store
   module _ (row : Option Row) (its : IsRowAt (row_of (get_or merge.slots 0 [])) merge.slot row) where
     -- it is that of the slot, if what is ahead is
     shown : (shape : Shape) (region : ℕ) (image : List ℕ) → AreSlots shape region image merge.slot merge.slots → IsRowAt (slot_row shape region image merge.slot) merge.slot row
-    shown shape region image are = subst (λ (r : StoredRow). IsRowAt r merge.slot row) (sym (first_slot shape region merge.slot image merge.slots some are)) its
+    shown shape region image are = rw (← (first_slot shape region merge.slot image merge.slots some are)) at its
 
     -- it is taken
     pub slot_taken : {T : Type 0} (region : ℕ) (fits : Bool) → region ≡ store.region → merge.damaged ≡ None → (waiting : List (Key × Source)) (input : Taken) (after : MergeState) (x : T)
@@ -84,7 +70,7 @@ module _ {D F : Type 0} (facts : Ghosts D F) (stores : List HashState) (disk : D
         let image : List ℕ = (facts.content disk).shown in
         let region : ℕ = get_or (regions_of stores) merge.store 0 in
         let inside : merge.store < length stores = omega (arith, below, counted) in
-        subst (λ (t : Shape). IsRowAt (slot_row t region image merge.slot) merge.slot row) merged.shape (shown sorted.shape region image ((merged.merged honest sound).gathered.slots inside))
+        rw merged.shape at (shown sorted.shape region image ((merged.merged honest sound).gathered.slots inside))
 
     -- there is no memory for it
     takes_row : (o : Option Row) → row ≡ o → IsSomeAnd o (λ (r : Row). source_at merge.waiting r.key.0 ≡ None)
@@ -108,9 +94,7 @@ module _ {D F : Type 0} (facts : Ghosts D F) (stores : List HashState) (disk : D
 -- whether an entry may be taken, in the words of the merge
 pub may_be : (ends ends_is : Bool) (part part_is digest : List ℕ) (answer answer_is : Bool) (input : Taken) → ends ≡ ends_is → part ≡ part_is → answer ≡ answer_is
     → ((bytes : List ℕ) → HasTaken input bytes → MayTake ends (bytes ++ part) digest answer) → (bytes : List ℕ) → HasTaken input bytes → MayTake ends_is (bytes ++ part_is) digest answer_is
-may_be ends ends_is part part_is digest answer answer_is input same_ends same_part same_answer may bytes holds =
-    subst (λ b. MayTake b (bytes ++ part_is) digest answer_is) same_ends
-    (subst (λ l. MayTake ends (bytes ++ l) digest answer_is) same_part (subst (MayTake ends (bytes ++ part) digest) same_answer (may bytes holds)))
+may_be ends ends_is part part_is digest answer answer_is input same_ends same_part same_answer may bytes holds = search arith
 
 -- an entry fits, or the old entries are found damaged
 pub entry_finds : (content : Content) (stores : List HashState) (sorted : SortedState) (digest : List ℕ) (merge : MergeState) (passes fits : Bool)
@@ -119,7 +103,7 @@ pub entry_finds : (content : Content) (stores : List HashState) (sorted : Sorted
     → (finding fits SortedDigest ≡ None) ⊎ ((finding fits SortedDigest ≡ Some (damaged_place stores merge)) × (MatchesDigests content stores sorted digest merge → ⊥))
 entry_finds content stores sorted digest merge passes true all there may = inl refl
 entry_finds content stores sorted digest merge passes false all there may =
-    inr (ap Some (deciding_place stores merge all), λ matches. entry_agrees content stores sorted digest merge matches passes all there may)
+    inr (ap Some (deciding_place stores merge all), λ matches. entry_agrees _ stores sorted digest merge matches passes all there may)
 
 -- an entry that is skipped because its key is not above the last one
 pub entry_skipped : {D F T : Type 0} (facts : Ghosts D F) (stores : List HashState) (sorted : SortedState) (digest : List ℕ) (disk : D)
@@ -136,9 +120,8 @@ pub entry_skipped : {D F T : Type 0} (facts : Ghosts D F) (stores : List HashSta
 entry_skipped facts stores sorted digest disk merge after fits next bytes input x held all sound some_ahead some there behind long may hashed is held_after =
     let taken : MergeState = record merge { passed = merge.passed + 1; decided = merge.decided + 1; ahead = parts_after true merge.ahead; input = input } in
     let moved : MergeState = record taken { damaged = finding fits SortedDigest } in
-    subst (λ (m : MergeState). TakesStep facts stores sorted digest disk disk merge m (Ok x)) (sym is)
-    (went_on facts stores sorted digest disk merge moved x (record { shape = refl; region = refl; stores = refl }) (subst IsHeldMerge is held_after) refl refl (omega arith) sound
-    (λ was. merged_noted (facts.content disk) stores sorted taken (finding fits SortedDigest) (merged_behind (facts.content disk) stores sorted merge next bytes input held all some there behind was))
-    (compared_key stores sorted digest merge fits SortedDigest sound true merge.waiting merge.written merge.index (merge.decided + 1)
-    merge.last (parts_after true merge.ahead) input merge.hasher held all (λ passes. long) may hashed)
-    (entry_finds (facts.content disk) stores sorted digest merge true fits all some_ahead may))
+    rw (← is) at (went_on facts stores sorted digest disk merge moved x (record { shape = refl; region = refl; stores = refl }) (subst IsHeldMerge is held_after) refl
+    refl (omega arith) sound (λ was. merged_noted (facts.content disk) stores sorted taken (finding fits SortedDigest) (merged_behind (facts.content disk) stores sorted
+    merge next bytes input held all some there behind was)) (compared_key stores sorted digest merge fits SortedDigest sound true merge.waiting merge.written merge.index
+    (merge.decided + 1) merge.last (parts_after true merge.ahead) input merge.hasher held all (λ passes. long) may hashed) (entry_finds (facts.content disk) stores sorted
+    digest merge true fits all some_ahead may))

@@ -1,5 +1,5 @@
 -- A merge as its record.
-use Rattle.silt_merge.specs.State.{MergeState}
+use Rattle.silt_merge.proofs.Common.{MergeState}
 use Rattle.silt_merge.specs.declared.merge.Merge.TheInside.{Inside}
 
 -- what a merge is seen as

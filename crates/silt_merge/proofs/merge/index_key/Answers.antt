@@ -1,4 +1,4 @@
-use Rattle.std.proofs.Common.{◌≡◌, true, Ok, ap, ◌∙◌}
+use Rattle.silt_merge.proofs.Common.{◌≡◌, true, Ok, ap, ◌∙◌}
 use Rattle.silt_merge.proofs.merge.index_key.Goals as goal
 
 pub returns-then-not-is_due-clause-index : goal.returns-then-not-is_due-clause-index

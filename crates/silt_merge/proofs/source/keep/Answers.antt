@@ -1,4 +1,4 @@
-use Rattle.std.proofs.Common.{sym, ◌∙◌}
+use Rattle.silt_merge.proofs.Common.{sym, ◌∙◌}
 use Rattle.silt_merge.proofs.Kept.{kept_row}
 use Rattle.silt_merge.proofs.source.keep.Goals as goal
 

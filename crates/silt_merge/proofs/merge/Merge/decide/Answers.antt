@@ -1,7 +1,5 @@
-use Rattle.std.proofs.Common.{Ok, Err, refl, ap, ◌∙◌, subst}
-use Rattle.silt_merge.specs.Merging.{HasMerged}
-use Rattle.silt_merge.specs.State.{IsHeldMerge, MergeState, ahead_without}
-use Rattle.silt_merge.specs.Steps.{TakesStep}
+use Rattle.silt_merge.proofs.Common.{Err, refl, ap, ◌∙◌, subst, HasMerged, IsHeldMerge, MergeState, TakesStep}
+use Rattle.silt_merge.specs.State.{ahead_without}
 use Rattle.silt_merge.proofs.Stepped.{read_and_failed, read_and_went, refused}
 use Rattle.silt_merge.proofs.merge.Merge.decide.Goals as goal
 
@@ -13,12 +11,8 @@ returns-in-Err g c =
 pub returns-in-Ok-decide_next : goal.returns-in-Ok-decide_next
 returns-in-Ok-decide_next g c =
     let before : MergeState = c.args.self.now in
-    read_and_went g.D.Disk c.args.stores.now c.args.sorted.now c.args.digest.now.0 c.args.disk.now c.decide_next.new.disk before before.slots c.read_ahead.new.self.ahead
-    (subst (λ (m : MergeState). HasMerged (g.D.Disk.content c.args.disk.now) c.args.stores.now c.args.sorted.now before
-    → HasMerged (g.D.Disk.content c.args.disk.now) c.args.stores.now c.args.sorted.now m) c.in-Ok.ensures.state (c.in-Ok.ensures.merged c.args.stores.now))
-    c.decide_next.new.self c.in-Ok-decide_next.field-0
-    (subst (λ (m : MergeState). TakesStep g.D.Disk c.args.stores.now c.args.sorted.now c.args.digest.now.0 c.args.disk.now
-    c.decide_next.new.disk m c.decide_next.new.self (Ok c.in-Ok-decide_next.field-0)) c.in-Ok.ensures.state c.in-Ok-decide_next.ensures)
+    read_and_went g.D.Disk _ _ _ _ _ before _ _ (rw c.in-Ok.ensures.state at (c.in-Ok.ensures.merged c.args.stores.now)) _ _ (rw c.in-Ok.ensures.state at
+    c.in-Ok-decide_next.ensures)
 
 pub returns-in-Err-decide_next : goal.returns-in-Err-decide_next
 returns-in-Err-decide_next g c =

@@ -1,22 +1,11 @@
-use Rattle.std.proofs.Common.{◌≡◌, ◌++◌, ◌+◌, ◌*◌, ◌<◌, ◌||◌, ℕ, true, false, cond, nat_lt, Bool, IsTrue, List, [], Some, Ok, drop, get_or, length, take, inr}
-use Rattle.std.proofs.Common.{ap, refl, sym, subst, ◌∙◌, arith, All, take_at}
-use Rattle.std.proofs.lemmas.Bool.{and_parts, ltb-true}
-use Rattle.sha1.specs.Sha1.{Holds}
-use Rattle.silt_disk.specs.Disk.{Content}
-use Rattle.silt_disk.specs.Layout.{Shape, entry_len}
+use Rattle.silt_merge.proofs.Common.{◌≡◌, ◌++◌, ◌+◌, ◌*◌, ◌<◌, ◌||◌, ℕ, true, false, cond, nat_lt, Bool, IsTrue, List, [], Some, Ok, drop, get_or, length, take, inr, ap, refl, sym, subst}
+use Rattle.silt_merge.proofs.Common.{◌∙◌, arith, and_parts, ltb-true, Holds, Content, entry_len, SortedDigest, HashState, due_rows, is_written, sorted_rows, entries_of, IsNextEntry}
+use Rattle.silt_merge.proofs.Common.{ReadsRow, AreEntries, parts_after, regions_of, IsHeldMerge, MergeState, ends_entries, finding, hashed_after, is_behind, passed_after, written_after}
+use Rattle.silt_merge.proofs.Common.{TakesStep, Choice, NoMemory, Source}
+use Rattle.std.proofs.Common.{All, take_at}
 use Rattle.silt_disk.proofs.Costs.{most_more}
-use Rattle.silt_event.specs.declared.place.Place.TheVariants.{SortedDigest}
-use Rattle.silt_hash_store.specs.State.{HashState}
-use Rattle.silt_sorted_store.specs.Region.{due_rows, is_written}
-use Rattle.silt_sorted_store.specs.State.{sorted_rows, entries_of}
-use Rattle.silt_merge.specs.Choice.{IsNextEntry, ReadsRow, choice_puts}
-use Rattle.silt_merge.specs.Pieces.{AreEntries, parts_after}
-use Rattle.silt_merge.specs.Rows.{regions_of}
-use Rattle.silt_merge.specs.State.{IsHeldMerge, MergeState, ends_entries, finding, hashed_after, is_behind, passed_after, written_after}
-use Rattle.silt_merge.specs.Steps.{TakesStep}
-use Rattle.silt_merge.specs.declared.choice.Choice.{Choice}
-use Rattle.silt_merge.specs.declared.merge.StepError.TheVariants.{NoMemory, Read}
-use Rattle.silt_merge.specs.declared.source.Source.{Source}
+use Rattle.silt_merge.specs.Choice.{choice_puts}
+use Rattle.silt_merge.specs.declared.merge.StepError.TheVariants.{Read}
 use Rattle.silt_merge.proofs.Choosing.{offered}
 use Rattle.silt_merge.proofs.Comparing.{compared_key}
 use Rattle.silt_merge.proofs.Ending.{held_with, merged_noted, merged_step, next_puts, nothing_left, offered_inside, skipped_inside}
@@ -69,26 +58,26 @@ pub read_row-requires-clause-store : goal.read_row-requires-clause-store
 read_row-requires-clause-store g c κs within =
     let merge : MergeState = state_of c.self.inside in
     let count = rw (← c.self.view_is) at c.requires.count in
-    let offers = offered merge.waiting merge.last c.first.result c.next_entry-next.result c.in-Some.choice c.first.ensures
+    let offers = offered _ _ _ _ _ c.first.ensures
     (sym c.choose.ensures ∙ c.in-Some.is) (sym c.is_behind-is_behind.ensures ∙ c.if-is_behind.false) c.self.invariant.0.above in
     let below : (source : Source) → c.in-Some.choice.source ≡ Some source → source.store < length c.args.stores.now = λ source is.
-    let inside = offered_inside merge c.in-Some.choice c.self.invariant.0 offers source is in omega (arith, inside.store, count) in
-    each_source c.in-Some.choice.source below
+    omega (arith, (offered_inside merge _ c.self.invariant.0 offers source is).store, count) in
+    each_source _ below
 
 pub read_row-requires-clause-slot : goal.read_row-requires-clause-slot
 read_row-requires-clause-slot g c κs within =
     let merge : MergeState = state_of c.self.inside in
     let shapes = rw (← c.self.view_is) at c.requires.shapes in
-    let offers = offered merge.waiting merge.last c.first.result c.next_entry-next.result c.in-Some.choice c.first.ensures
+    let offers = offered _ _ _ _ _ c.first.ensures
     (sym c.choose.ensures ∙ c.in-Some.is) (sym c.is_behind-is_behind.ensures ∙ c.if-is_behind.false) c.self.invariant.0.above in
     let below : (source : Source) → c.in-Some.choice.source ≡ Some source → All (λ (store : HashState). source.slot < 4 * store.shape.buckets) c.args.stores.now = λ source is k blank inside.
-    let it = offered_inside merge c.in-Some.choice c.self.invariant.0 offers source is in subst (λ (s : Shape). source.slot < 4 * s.buckets) (sym (shapes k blank inside)) it.slot in
-    each_source c.in-Some.choice.source below
+    let it = offered_inside merge _ c.self.invariant.0 offers source is in rw (← (shapes k blank inside)) at it.slot in
+    each_source _ below
 
 pub read_row-requires-clause-shapes : goal.read_row-requires-clause-shapes
 read_row-requires-clause-shapes g c κs within =
     let shapes = rw (← c.self.view_is) at c.requires.shapes in
-    λ k blank below. ap (λ (s : Shape). 20 + s.value_len) (shapes k blank below) ∙ sym (c.deref_mut-2.ensures.len ∙ c.self.invariant.3)
+    λ k blank below. cc (shapes k blank below, c.deref_mut-2.ensures.len, c.self.invariant.3)
 
 pub returns-in-Err : goal.returns-in-Err
 returns-in-Err g c =
@@ -132,18 +121,16 @@ pub returns-in-Err-write_due : goal.returns-in-Err-write_due
 returns-in-Err-write_due g c =
     let merge : MergeState = state_of c.self.inside in
     let all = rw (← c.self.view_is) at c.requires.gathered in
-    rw (← c.self.view_is)
-    (broke g.D.Disk c.args.stores.now c.args.sorted.now c.args.digest.now.0 c.args.disk.now c.write_due.new.disk merge
-    (let m : MergeState = record merge { index = c.index_key.new.index } in m) (rw (← c.self.view_is) at c.requires.sound)
-    c.write_due.ensures.wrote.size all (record { shape = refl; region = refl; stores = refl })
-    (held_with merge merge.slots merge.ahead c.index_key.new.index merge.hasher c.index_key.ensures.most c.self.invariant.0)
-    c.write_due.ensures.wrote.changes c.write_due.ensures.region c.in-Err-write_due.fault refl refl
-    (most_more c.in-Err-write_due.ensures.wrote.made (one_most _) (omega arith)) c.in-Err-write_due.ensures.wrote.failures)
+    rw (← c.self.view_is) (broke g.D.Disk c.args.stores.now c.args.sorted.now c.args.digest.now.0 c.args.disk.now c.write_due.new.disk merge (let m : MergeState
+    = record merge { index = c.index_key.new.index } in m) (rw (← c.self.view_is) at c.requires.sound) c.write_due.ensures.wrote.size all (record
+    { shape = refl; region = refl; stores = refl }) (held_with merge _ _ _ _ c.index_key.ensures.most c.self.invariant.0) c.write_due.ensures.wrote.changes
+    c.write_due.ensures.region c.in-Err-write_due.fault refl refl (most_more c.in-Err-write_due.ensures.wrote.made (one_most _) (omega arith))
+    c.in-Err-write_due.ensures.wrote.failures)
 
 pub invariant_of-self-in-Ok : goal.invariant_of-self-in-Ok
 invariant_of-self-in-Ok g c =
     let merge : MergeState = state_of c.self.inside in (
-      held_with merge merge.slots merge.ahead c.index_key.new.index c.hash_entry.new.hasher c.index_key.ensures.most c.self.invariant.0,
+      held_with merge _ _ _ _ c.index_key.ensures.most c.self.invariant.0,
       c.self.invariant.1,
       c.self.invariant.2,
       c.self.invariant.3,
@@ -153,7 +140,7 @@ invariant_of-self-in-Ok g c =
 pub invariant_of-self-in-Err-write_due : goal.invariant_of-self-in-Err-write_due
 invariant_of-self-in-Err-write_due g c =
     let merge : MergeState = state_of c.self.inside in (
-      held_with merge merge.slots merge.ahead c.index_key.new.index merge.hasher c.index_key.ensures.most c.self.invariant.0,
+      held_with merge _ _ _ _ c.index_key.ensures.most c.self.invariant.0,
       c.self.invariant.1,
       c.self.invariant.2,
       c.self.invariant.3,
@@ -163,8 +150,7 @@ invariant_of-self-in-Err-write_due g c =
 pub mark_decided-requires-clause-offered : goal.mark_decided-requires-clause-offered
 mark_decided-requires-clause-offered g c =
     let merge : MergeState = state_of c.self.inside in
-    offered merge.waiting merge.last c.first.result c.next_entry-next.result c.in-Some.choice c.first.ensures (sym c.choose.ensures ∙ c.in-Some.is)
-    (sym c.is_behind-is_behind.ensures ∙ c.if-is_behind.false) c.self.invariant.0.above
+    offered _ _ _ _ _ c.first.ensures (sym c.choose.ensures ∙ c.in-Some.is) (sym c.is_behind-is_behind.ensures ∙ c.if-is_behind.false) c.self.invariant.0.above
 
 pub mark_decided-requires-clause-room : goal.mark_decided-requires-clause-room
 mark_decided-requires-clause-room g c = λ due.

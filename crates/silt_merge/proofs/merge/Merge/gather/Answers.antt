@@ -1,24 +1,17 @@
-use Rattle.std.proofs.Common.{Ok, Err, refl, ap, ◌∙◌, subst}
-use Rattle.silt_merge.specs.Merging.{HasMerged}
-use Rattle.silt_merge.specs.State.{IsHeldMerge, MergeState, ahead_without}
-use Rattle.silt_merge.specs.Steps.{TakesStep}
+use Rattle.silt_merge.proofs.Common.{Err, refl, ap, ◌∙◌, subst, HasMerged, IsHeldMerge, MergeState, TakesStep}
+use Rattle.silt_merge.specs.State.{ahead_without}
 use Rattle.silt_merge.proofs.Stepped.{read_and_failed, read_and_went, refused}
 use Rattle.silt_merge.proofs.merge.Merge.gather.Goals as goal
 
 pub returns-in-Err : goal.returns-in-Err
-returns-in-Err g c = λ sorted digest.
-    refused g.D.Disk c.args.stores.now sorted digest c.args.disk.now c.args.self.now c.read_slots.new.self _ c.in-Err.ensures.state
-    (subst IsHeldMerge c.in-Err.ensures.state c.read_slots.ensures.held) c.requires.sound (refl, refl, c.in-Err.ensures.fault)
+returns-in-Err g c = λ sorted digest. refused g.D.Disk c.args.stores.now sorted digest c.args.disk.now c.args.self.now c.read_slots.new.self _
+    c.in-Err.ensures.state (subst IsHeldMerge c.in-Err.ensures.state c.read_slots.ensures.held) c.requires.sound (refl, refl, c.in-Err.ensures.fault)
 
 pub returns-in-Ok-gather_ahead : goal.returns-in-Ok-gather_ahead
 returns-in-Ok-gather_ahead g c = λ sorted digest.
     let before : MergeState = c.args.self.now in
-    read_and_went g.D.Disk c.args.stores.now sorted digest c.args.disk.now c.args.disk.now before c.read_slots.new.self.slots before.ahead
-    (subst (λ (m : MergeState). HasMerged (g.D.Disk.content c.args.disk.now) c.args.stores.now sorted before
-    → HasMerged (g.D.Disk.content c.args.disk.now) c.args.stores.now sorted m) c.in-Ok.ensures.state (c.in-Ok.ensures.merged sorted))
-    c.gather_ahead.new.self c.in-Ok-gather_ahead.field-0
-    (subst (λ (m : MergeState). TakesStep g.D.Disk c.args.stores.now sorted digest c.args.disk.now c.args.disk.now m c.gather_ahead.new.self
-    (Ok c.in-Ok-gather_ahead.field-0)) c.in-Ok.ensures.state (c.in-Ok-gather_ahead.ensures.step sorted digest))
+    read_and_went g.D.Disk _ sorted digest _ _ before _ _ (rw c.in-Ok.ensures.state at (c.in-Ok.ensures.merged sorted)) _ _ (rw c.in-Ok.ensures.state at
+    (c.in-Ok-gather_ahead.ensures.step sorted digest))
 
 pub returns-in-Err-gather_ahead : goal.returns-in-Err-gather_ahead
 returns-in-Err-gather_ahead g c = λ sorted digest.

@@ -1,8 +1,4 @@
-use Rattle.std.proofs.Common.{◌≡◌, ℕ, get_or, subst, sym, ap, ◌∙◌}
-use Rattle.silt_event.specs.declared.place.Place.TheVariants.{HashDigest}
-use Rattle.silt_hash_store.specs.State.{HashState}
-use Rattle.silt_merge.specs.State.{MergeState, finding}
-use Rattle.silt_merge.specs.Steps.{GathersSlot}
+use Rattle.silt_merge.proofs.Common.{◌≡◌, ℕ, get_or, subst, ap, ◌∙◌, HashDigest, HashState, MergeState, finding}
 use Rattle.silt_merge.proofs.Taking.{row_refused, slot_taken}
 use Rattle.silt_merge.proofs.merge.Merge.gather_ahead.Goals as goal
 
@@ -20,8 +16,7 @@ returns-in-Ok-clause-step g c =
 
 pub returns-in-Ok-clause-slot : goal.returns-in-Ok-clause-slot
 returns-in-Ok-clause-slot g c =
-    subst (λ (m : MergeState). GathersSlot c.args.self.now m) (sym c.note.ensures.state)
-    (record { row = c.row_ahead-row.result; shown = c.row_ahead-row.ensures; keeps = c.in-Ok.ensures.gathers; hashed = c.in-Ok.ensures.hashed })
+    rw c.note.ensures.state (record { row = c.row_ahead-row.result; shown = c.row_ahead-row.ensures; keeps = c.in-Ok.ensures.gathers; hashed = c.in-Ok.ensures.hashed })
 
 pub returns-in-Err-clause-step : goal.returns-in-Err-clause-step
 returns-in-Err-clause-step g c =

@@ -1,8 +1,7 @@
-use Rattle.std.proofs.Common.{ap, ◌∙◌, sym, subst}
+use Rattle.silt_merge.proofs.Common.{ap, ◌∙◌, sym, subst, entries_of}
 use Rattle.silt_merge.specs.Merging.{IsMergeOf}
 use Rattle.silt_merge.specs.Rows.{sources}
-use Rattle.silt_merge.specs.State.{MergeState, sorted_in}
-use Rattle.silt_sorted_store.specs.State.{entries_of}
+use Rattle.silt_merge.specs.State.{sorted_in}
 use Rattle.silt_merge.proofs.Ending.{done_entries, done_merge}
 use Rattle.silt_merge.proofs.Viewing.{state_of}
 use Rattle.silt_merge.proofs.merge.Merge.into_store.Goals as goal

@@ -1,10 +1,5 @@
-use Rattle.std.proofs.Common.{◌≡◌, List, ℕ, get_or, sym, subst, ap, ◌∙◌, arith}
+use Rattle.silt_merge.proofs.Common.{◌≡◌, List, ℕ, get_or, sym, subst, ap, ◌∙◌, arith, Shape, HashState, AreSlots, regions_of, MergeState}
 use Rattle.std.proofs.lemmas.Result.{MatchResult-from_err}
-use Rattle.silt_disk.specs.Layout.{Shape}
-use Rattle.silt_hash_store.specs.State.{HashState}
-use Rattle.silt_merge.specs.Pieces.{AreSlots}
-use Rattle.silt_merge.specs.Rows.{regions_of}
-use Rattle.silt_merge.specs.State.{MergeState}
 use Rattle.silt_merge.proofs.Ending.{held_reads, merged_slots}
 use Rattle.silt_merge.proofs.Reading.{store_at}
 use Rattle.silt_merge.proofs.Viewing.{state_of}
@@ -12,7 +7,7 @@ use Rattle.silt_merge.proofs.merge.Merge.read_slots.Goals as goal
 
 pub invariant_of-self : goal.invariant_of-self
 invariant_of-self g c =
-    let held = held_reads (state_of c.self.inside) c.read_slots.new.self.parts c.self.inside.ahead.parts c.self.invariant.0 in
+    let held = held_reads _ _ _ c.self.invariant.0 in
     (held, c.read_slots.ensures.len ∙ c.self.invariant.1, c.self.invariant.2, c.self.invariant.3, c.self.invariant.4)
 
 pub returns-in_err-read_slots-clause-state : goal.returns-in_err-read_slots-clause-state
@@ -41,11 +36,11 @@ returns-clause-merged g c =
 
 pub invariant_of-self-2 : goal.invariant_of-self-2
 invariant_of-self-2 g c =
-    let held = held_reads (state_of c.self.inside) c.read_slots.new.self.parts c.self.inside.ahead.parts c.self.invariant.0 in
+    let held = held_reads _ _ _ c.self.invariant.0 in
     (held, c.read_slots.ensures.len ∙ c.self.invariant.1, c.self.invariant.2, c.self.invariant.3, c.self.invariant.4)
 
 pub returns-clause-held : goal.returns-clause-held
-returns-clause-held g c = held_reads (state_of c.self.inside) c.read_slots.new.self.parts c.self.inside.ahead.parts c.self.invariant.0
+returns-clause-held g c = held_reads _ _ _ c.self.invariant.0
 
 pub returns-in_err-read_slots-clause-held : goal.returns-in_err-read_slots-clause-held
-returns-in_err-read_slots-clause-held g c = held_reads (state_of c.self.inside) c.read_slots.new.self.parts c.self.inside.ahead.parts c.self.invariant.0
+returns-in_err-read_slots-clause-held g c = held_reads _ _ _ c.self.invariant.0

@@ -1,7 +1,6 @@
-use Rattle.std.proofs.Common.{ap}
+use Rattle.silt_merge.proofs.Common.{ap, BuilderState}
 use Rattle.silt_merge.proofs.Ending.{seals}
 use Rattle.silt_merge.proofs.Viewing.{state_of}
-use Rattle.silt_trie.specs.Building.{BuilderState}
 use Rattle.silt_merge.proofs.merge.Merge.seal.Goals as goal
 
 pub returns-clause-made : goal.returns-clause-made

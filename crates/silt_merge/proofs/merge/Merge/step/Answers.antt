@@ -1,26 +1,22 @@
-use Rattle.std.proofs.Common.{◌≡◌, List, Some, ap, ◌∙◌, sym, subst, All}
-use Rattle.silt_hash_store.specs.State.{HashState}
-use Rattle.silt_merge.specs.State.{IsHeldMerge, MergeState, oldest_stores}
-use Rattle.silt_merge.specs.Steps.{TakesStep}
+use Rattle.silt_merge.proofs.Common.{◌≡◌, Some, ap, ◌∙◌, subst, IsHeldMerge, MergeState}
+use Rattle.silt_merge.specs.State.{oldest_stores}
 use Rattle.silt_merge.proofs.Stepped.{refused_at_once}
 use Rattle.silt_merge.proofs.merge.Merge.step.Goals as goal
 
 pub returns-then-self : goal.returns-then-self
 returns-then-self g c =
     let taken = c.split_at.ensures.back ∙ ap (λ (m : MergeState). oldest_stores m.stores c.args.stores.now) c.self.view_is in
-    subst (λ (l : List HashState). TakesStep g.D.Disk l c.args.sorted.now c.args.digest.now.0 c.args.disk.now c.args.disk.now
-    c.args.self.now c.gather.new.self c.gather.result) taken (c.gather.ensures c.args.sorted.now c.args.digest.now.0)
+    rw taken at (c.gather.ensures c.args.sorted.now c.args.digest.now.0)
 
 pub returns : goal.returns
 returns g c =
     let taken = c.split_at.ensures.back ∙ ap (λ (m : MergeState). oldest_stores m.stores c.args.stores.now) c.self.view_is in
-    subst (λ (l : List HashState). TakesStep g.D.Disk l c.args.sorted.now c.args.digest.now.0 c.args.disk.now c.decide.new.disk
-    c.args.self.now c.decide.new.self c.decide.result) taken c.decide.ensures
+    rw taken at c.decide.ensures
 
 pub decide-requires-clause-shapes : goal.decide-requires-clause-shapes
 decide-requires-clause-shapes g c κs within =
     let taken = c.split_at.ensures.back ∙ ap (λ (m : MergeState). oldest_stores m.stores c.args.stores.now) c.self.view_is in
-    subst (λ (l : List HashState). All (λ (store : HashState). store.shape ≡ c.args.self.now.shape) l) (sym taken) c.requires.shapes
+    rw (← taken) at c.requires.shapes
 
 pub returns-in-Some : goal.returns-in-Some
 returns-in-Some g c =

@@ -1,9 +1,6 @@
-use Rattle.std.proofs.Common.{◌≡◌, ℕ, ◌++◌, List, length, take, drop, sym, subst, arith, take_at}
-use Rattle.silt_disk.specs.Layout.{entry_len}
-use Rattle.silt_frame.specs.Rows.{StoredRow}
+use Rattle.silt_merge.proofs.Common.{◌≡◌, ℕ, ◌++◌, List, length, take, drop, sym, subst, arith, entry_len, StoredRow, entries_of, AreEntries, parts_from}
+use Rattle.std.proofs.Common.{take_at}
 use Rattle.silt_sorted_store.specs.Indexing.{HoldsEntries}
-use Rattle.silt_sorted_store.specs.State.{entries_of}
-use Rattle.silt_merge.specs.Pieces.{AreEntries, parts_from}
 use Rattle.silt_merge.proofs.Pieces.{are_entries, part_count}
 use Rattle.silt_merge.proofs.piece.Piece.read_entries.Goals as goal
 

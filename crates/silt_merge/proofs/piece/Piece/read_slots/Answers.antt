@@ -1,6 +1,5 @@
-use Rattle.std.proofs.Common.{◌≡◌, ℕ, ◌+◌, ◌*◌, ◌≤◌, ◌++◌, List, length, take, drop, sym, subst, ap, ◌∙◌, arith, take_at}
-use Rattle.silt_disk.specs.Layout.{Shape, row_len}
-use Rattle.silt_merge.specs.Pieces.{AreSlots, parts_from}
+use Rattle.silt_merge.proofs.Common.{◌≡◌, ℕ, ◌+◌, ◌*◌, ◌≤◌, ◌++◌, List, length, take, drop, ap, ◌∙◌, arith, Shape, row_len}
+use Rattle.std.proofs.Common.{take_at}
 use Rattle.silt_merge.proofs.Pieces.{are_slots, part_count}
 use Rattle.silt_merge.proofs.piece.Piece.read_slots.Goals as goal
 
@@ -13,9 +12,7 @@ returns-clause-slots g c = λ honest.
     let all = c.buckets-slots.ensures.value ∙ ap (λ (s : Shape). s.buckets) c.geometry.ensures.value in
     let within : c.args.slot + c.min-count.result ≤ 4 * store.shape.buckets = omega (arith, c.min-count.ensures, c.requires.slot, all) in
     let kept : take c.self.inside.bytes.len (new ++ drop (length new) c.self.inside.bytes.items) ≡ new = take_at new _ _ (omega (arith, c.slots_into.ensures.len, c.deref_mut.ensures.len)) in
-    subst (λ (b : List ℕ). AreSlots store.shape store.region image c.args.slot (parts_from b c.self.inside.len 0 c.min-count.result)) (sym kept)
-    (subst (λ (n : ℕ). AreSlots store.shape store.region image c.args.slot (parts_from new n 0 c.min-count.result)) (sym len_is)
-    (are_slots store.shape store.region c.args.slot c.min-count.result image new within (c.in_ok-slots_into.ensures.slots honest)))
+    rw (← len_is, ← kept) at (are_slots store.shape store.region c.args.slot c.min-count.result image new within (c.in_ok-slots_into.ensures.slots honest))
 
 pub returns-clause-some : goal.returns-clause-some
 returns-clause-some g c =
