@@ -1,5 +1,5 @@
 -- Files that are filled.
-use Rattle.std.proofs.Common.{◌≡◌, ◌∙◌, ℕ, suc, true, false, ◌+◌, ◌-◌, ◌≤◌, replicate, List, ◌++◌, length, take, drop, slice_range, IsTrue, refl, sym, ap, arith}
+use Rattle.std.proofs.Common.{◌≡◌, ◌∙◌, ℕ, suc, true, false, ◌+◌, ◌-◌, ◌≤◌, replicate, List, length, take, drop, slice_range, IsTrue, refl, sym, ap, arith}
 use Rattle.std.specs.Prelude.{OnOk, Result, Ok, Err}
 use Rattle.std.proofs.lemmas.List.{append_assoc, length-append, length-take, length-replicate}
 use Rattle.std.proofs.lemmas.List.Edits.{length-between, split_between}
@@ -11,9 +11,7 @@ use Rattle.silt_device.specs.System.{Resizes, ShowsAlike, with_length}
 pub spliced_again : (at count : ℕ) (image : List ℕ) → at + count ≤ length image → splice at (slice_range image at (at + count)) image ≡ image
 spliced_again at count image fits =
     let long : length (slice_range image at (at + count)) ≡ count = length-between image at (at + count) fits ∙ omega arith in
-    ap (λ (n : ℕ). take at image ++ slice_range image at (at + count) ++ drop (at + n) image) long
-    ∙ append_assoc (take at image) (slice_range image at (at + count)) (drop (at + count) image)
-    ∙ sym (split_between image at (at + count) (omega arith))
+    cc (append_assoc (take at image) (slice_range image at (at + count)) (drop (at + count) image), split_between image at (at + count) (omega arith))
 
 -- a piece of a file was written where it is
 pub piece_written : {T E : Type 0} (at count : ℕ) (bytes : List ℕ) (old new : Content) (result : Result T E) → length bytes ≡ count → (IsTrue old.honest → at + count ≤ size old)

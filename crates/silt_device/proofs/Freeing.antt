@@ -1,7 +1,7 @@
 -- What a disk with several buffers has while one of them is brought in front, and while some are written out.
 use Rattle.std.proofs.Common.{◌≡◌, ◌==◌, ℕ, ◌+◌, ◌≤◌, ◌&&◌, ◌||◌, Bool, true, false, cond, leb, IsTrue, List, length, slice_range, suc, zero, refl, sym, ap, ◌∙◌, subst, inl, inr, arith}
 use Rattle.std.proofs.lemmas.List.{ext_get_or}
-use Rattle.std.proofs.lemmas.Bool.{cases_Bool, cond-true, cond-false}
+use Rattle.std.proofs.lemmas.Bool.{and_parts, cases_Bool, cond-true, cond-false}
 use Rattle.std.proofs.lemmas.Bool.Decides.{nat_tests}
 use Rattle.silt_disk.specs.Disk.{Content, Makes, Restarts, Settles, Stays, Tears, Writes, size}
 use Rattle.silt_disk.proofs.Costs.{made_both, none_made}
@@ -26,15 +26,13 @@ swapped_bytes g h image apart =
     ext_get_or 0 _ _ (whole ∙ sym (length-image_over g (image_over h image) ∙ wide)) (λ place inside. elim (cases_Bool (waits g place)) [
       | inl there ↦
           let none = apart_at g h place apart there in
-          byte_elsewhere h (image_over g image) place none ∙ byte_there g image place there (omega (arith, whole))
-          ∙ sym (byte_there g (image_over h image) place there (omega (arith, whole, wide)))
+          cc (byte_elsewhere h (image_over g image) place none, byte_there g image place there (omega (arith, whole)), byte_there g (image_over h image) place there (omega (arith, whole, wide)))
       | inr elsewhere ↦ elim (cases_Bool (waits h place)) [
         | inl there ↦
             byte_there h (image_over g image) place there (omega (arith, whole, long))
             ∙ sym (byte_elsewhere g (image_over h image) place elsewhere ∙ byte_there h image place there (omega (arith, whole)))
         | inr none ↦
-            byte_elsewhere h (image_over g image) place none ∙ byte_elsewhere g image place elsewhere
-            ∙ sym (byte_elsewhere g (image_over h image) place elsewhere ∙ byte_elsewhere h image place none)
+            cc (byte_elsewhere h (image_over g image) place none, byte_elsewhere g image place elsewhere, byte_elsewhere g (image_over h image) place elsewhere, byte_elsewhere h image place none)
       ]
     ])
 
@@ -60,26 +58,17 @@ stays_same c = record {
   pending = λ honest place. refl;
 }
 
--- if two facts hold, each does
-both_left : (a b : Bool) → (a && b) ≡ true → a ≡ true
-both_left true b is = refl
-both_left false b is = absurd (cc)
-
-both_right : (a b : Bool) → (a && b) ≡ true → b ≡ true
-both_right true b is = is
-both_right false b is = absurd (cc)
-
 -- what holds of the buffers in their order, and in any order that is as good, holds once the one is in front that takes some bytes
 pub brought_keeps : (P : Buffers → Type 0) (b : Buffers) (at count : ℕ) → P b → (lie_apart b.second b.first ≡ true → P (record { first = b.second; second = b.first; third = b.third }))
     → (lie_apart b.third b.first ≡ true → lie_apart b.third b.second ≡ true → P (turned b)) → P (brought b at count)
 brought_keeps P b at count as_is swaps turns = elim (cases_Bool (takes b.first at count)) [
   | inl holds ↦ subst P (sym (cond-true _ _ _ holds)) as_is
   | inr fails ↦ subst P (sym (cond-false _ _ _ fails)) (elim (cases_Bool (takes b.second at count && lie_apart b.second b.first)) [
-    | inl holds ↦ subst P (sym (cond-true _ _ _ holds)) (swaps (both_right (takes b.second at count) _ holds))
+    | inl holds ↦ subst P (sym (cond-true _ _ _ holds)) (swaps (and_parts (takes b.second at count) _ holds).1)
     | inr fails ↦ subst P (sym (cond-false _ _ _ fails)) (elim (cases_Bool (takes b.third at count && (lie_apart b.third b.first && lie_apart b.third b.second))) [
       | inl holds ↦
-          let apart = both_right (takes b.third at count) _ holds in
-          subst P (sym (cond-true _ _ _ holds)) (turns (both_left _ (lie_apart b.third b.second) apart) (both_right (lie_apart b.third b.first) _ apart))
+          let apart = and_parts _ (lie_apart b.third b.second) (and_parts (takes b.third at count) _ holds).1 in
+          subst P (sym (cond-true _ _ _ holds)) (turns apart.0 apart.1)
       | inr fails ↦ subst P (sym (cond-false _ _ _ fails)) as_is
     ])
   ])
@@ -387,8 +376,7 @@ all_laid b at image old new laid fits is =
 -- if one of three facts holds, and two do not, the third does
 third_of : (a b c : Bool) → (a || (b || c)) ≡ true → a ≡ false → b ≡ false → c ≡ true
 third_of false false c one first second = one
-third_of true b c one first second = absurd (cc)
-third_of false true c one first second = absurd (cc)
+third_of a b c one first second = absurd (cc)
 
 -- if a buffer has all bytes of the range, the image does not matter
 pub all_held : (b : Buffers) (at : ℕ) (image old new : List ℕ) → LaidOverAll b at old new → at + length old ≤ length image → has_all b at (length old) ≡ true
@@ -409,13 +397,11 @@ all_held b at image old new laid fits held =
       | inr other ↦
           let second : laid.between ≡ slice_range between at (at + length laid.between) = elim (cases_Bool (holds b.second at (length old))) [
             | inl middle ↦
-                laid_whole b.second at behind laid.behind laid.between laid.second (omega (arith, fits, long, after_third)) (ap (holds b.second at) after_third ∙ middle)
-                ∙ ap (λ (n : ℕ). slice_range between at (at + n)) (sym laid.second.size)
+                cc (laid_whole b.second at behind laid.behind laid.between laid.second (omega (arith, fits, long, after_third)) (ap (holds b.second at) after_third ∙ middle), laid.second.size)
             | inr neither ↦
                 let last : holds b.third at (length old) ≡ true = third_of _ _ _ held other neither in
                 let first = laid_whole b.third at image old laid.behind laid.third fits last ∙ ap (λ (n : ℕ). slice_range behind at (at + n)) (sym after_third) in
-                laid_shows b.second at behind laid.behind laid.between laid.second (omega (arith, fits, long, after_third)) first
-                ∙ ap (λ (n : ℕ). slice_range between at (at + n)) (sym laid.second.size)
+                cc (laid_shows b.second at behind laid.behind laid.between laid.second (omega (arith, fits, long, after_third)) first, laid.second.size)
           ] in
           laid_shows b.first at between laid.between new laid.first (omega (arith, fits, long, wide, after_second)) second ∙ ends (length laid.between) after_second
     ]

@@ -1,5 +1,5 @@
 -- The places that a disk in memory marks as pending.
-use Rattle.std.proofs.Common.{◌≡◌, ℕ, ◌+◌, ◌-◌, ◌≤◌, ◌<◌, ◌||◌, ◌⊎◌, Bool, true, false, List, length, slice_range, get_or, refl, sym, ◌∙◌, ap, subst, inl, inr, arith}
+use Rattle.std.proofs.Common.{◌≡◌, ℕ, ◌+◌, ◌-◌, ◌≤◌, ◌<◌, ◌||◌, Bool, true, false, List, length, slice_range, get_or, sym, ◌∙◌, ap, subst, inl, inr, arith}
 use Rattle.std.proofs.lemmas.Bool.{cases_lt, cases_Bool}
 use Rattle.std.proofs.lemmas.List.Edits.{length-between, get_or-between}
 use Rattle.std.proofs.lemmas.Bool.Decides.{nat_tests}
@@ -18,8 +18,7 @@ outside_range at count place outside high = grind (arith, nat_tests)
 
 -- if `a or b` is false, both are false
 or_false : (a b : Bool) → (a || b) ≡ false → (a ≡ false) × (b ≡ false)
-or_false true b is = absurd (cc)
-or_false false b is = (refl, is)
+or_false a b is = grind arith
 
 -- after a write that marks its range
 pub agrees_written : (at : ℕ) (bytes shown written settled : List ℕ) (pending marked : List Bool) → at + length bytes ≤ length shown
@@ -35,8 +34,7 @@ agrees_written at bytes shown written settled pending marked fits is marks agree
 
 -- the same for lists that equal these
 pub agrees_at : {shown written : List ℕ} (settled : List ℕ) {pending marked : List Bool} → shown ≡ written → pending ≡ marked → Agrees written settled marked → Agrees shown settled pending
-agrees_at settled same_shown same_pending agrees place unmarked =
-    ap (λ (l : List ℕ). get_or l place 0) same_shown ∙ agrees place (sym (ap (λ (l : List Bool). get_or l place false) same_pending) ∙ unmarked)
+agrees_at settled same_shown same_pending agrees = rw (same_shown, same_pending) agrees
 
 -- ---- the range that contains the marked places
 
@@ -51,39 +49,6 @@ after_range at count place high = grind (arith, nat_tests)
 -- one between is in it
 in_range : (from to place : ℕ) → from ≤ place → place < to → within from (to - from) place ≡ true
 in_range from to place low high = grind (arith, nat_tests)
-
--- the bounds of a place in a range
-range_bounds : (at count place : ℕ) → within at count place ≡ true → (at ≤ place) × (place < at + count)
-range_bounds at count place inside = (grind (arith, nat_tests), grind (arith, nat_tests))
-
--- if `a or b` is true, one of them is true
-or_true : (a b : Bool) → (a || b) ≡ true → (a ≡ true) ⊎ (b ≡ true)
-or_true true b is = inl refl
-or_true false b is = inr is
-
--- the first range that is marked
-pub marked_first : (at count from to : ℕ) (old new : List Bool) → LieWithin from to old → from ≡ to → at + count ≤ length new
-    → ((place : ℕ) → get_or new place false ≡ (get_or old place false || within at count place)) → LieWithin at (at + count) new
-marked_first at count from to old new lie none fits marks =
-    let bounds : (place : ℕ) → get_or new place false ≡ true → (at ≤ place) × (place < at + count) = λ place is. elim (or_true _ _ (sym (marks place) ∙ is)) [
-      | inl before ↦
-          let held : get_or old place false ≡ true = before in
-          absurd (omega (arith, lie.low place held, lie.high place held))
-      | inr inside ↦ range_bounds at count place inside
-    ] in
-    record { order = omega arith; fits = fits; low = λ place is. (bounds place is).0; high = λ place is. (bounds place is).1 }
-
--- and a further one
-pub marked_more : (at count from to low high : ℕ) (old new : List Bool) → LieWithin from to old → low ≤ from → low ≤ at → to ≤ high
-    → at + count ≤ high → high ≤ length new → ((place : ℕ) → get_or new place false ≡ (get_or old place false || within at count place)) → LieWithin low high new
-marked_more at count from to low high old new lie low_from low_at high_to high_end fits marks =
-    let bounds : (place : ℕ) → get_or new place false ≡ true → (low ≤ place) × (place < high) = λ place is. elim (or_true _ _ (sym (marks place) ∙ is)) [
-      | inl before ↦
-          let held : get_or old place false ≡ true = before in
-          (omega (arith, lie.low place held), omega (arith, lie.high place held))
-      | inr inside ↦ (omega (arith, (range_bounds at count place inside).0), omega (arith, (range_bounds at count place inside).1))
-    ] in
-    record { order = omega arith; fits = fits; low = λ place is. (bounds place is).0; high = λ place is. (bounds place is).1 }
 
 -- outside of the range the shown bytes are settled
 agrees_outside : (from to : ℕ) (shown settled : List ℕ) (pending : List Bool) → LieWithin from to pending → Agrees shown settled pending

@@ -117,27 +117,19 @@ stays_over g old new stays = record {
 
 -- of three, the last two in turn
 pub or_swap : (a b c : Bool) → ((a || b) || c) ≡ ((a || c) || b)
-or_swap true b c = refl
-or_swap false true true = refl
-or_swap false true false = refl
-or_swap false false true = refl
-or_swap false false false = refl
+or_swap a b c = grind arith
 
 -- of three, grouped the other way
 or_assoc : (a b c : Bool) → (a || (b || c)) ≡ ((a || b) || c)
-or_assoc true b c = refl
-or_assoc false b c = refl
+or_assoc a b c = grind arith
 
 -- a fact added twice
 or_again : (a b : Bool) → ((a || b) || b) ≡ (a || b)
-or_again true b = refl
-or_again false true = refl
-or_again false false = refl
+or_again a b = grind arith
 
 -- a false fact added
 or_none : (a b : Bool) → b ≡ false → (a || b) ≡ a
-or_none true b none = refl
-or_none false b none = none
+or_none a b none = grind arith
 
 -- a write, Ok or Err
 pub tears_over : (g : BufferedBytes) (at count : ℕ) (old new : Content) → Tears at count old new → Tears at count (content_over g old) (content_over g new)
@@ -226,8 +218,7 @@ module _ (g : BufferedBytes) (from : ℕ) (bytes image : List ℕ) (room : IsTru
   -- a byte waits at a place if it did before, or if the place is one of the new bytes'
   waits_grown : (place : ℕ) → waits (grown g from bytes) place ≡ (waits g place || within from (length bytes) place)
   waits_grown place =
-      ap (λ (n : ℕ). within (from - length g.bytes) n place) (length-append g.bytes bytes)
-      ∙ within_both g.at (length g.bytes) from (length bytes) place (continues g from (length bytes) room)
+      cc (length-append g.bytes bytes, within_both g.at (length g.bytes) from (length bytes) place (continues g from (length bytes) room))
 
   -- outside of the new bytes nothing changes
   byte_grown : (place : ℕ) → within from (length bytes) place ≡ false → get_or (image_over (grown g from bytes) image) place 0 ≡ get_or (image_over g image) place 0
@@ -291,8 +282,7 @@ grown_tears g from bytes inner room fits = record {
   honest = refl;
   shown = λ honest. torn_grown g from bytes inner.shown room fits;
   settled = λ honest. refl;
-  pending = λ honest place. ap (λ (p : Bool). inner.pending place || p) (waits_grown g from bytes inner.shown room fits place)
-      ∙ or_assoc (inner.pending place) (waits g place) (within from (length bytes) place);
+  pending = λ honest place. cc (waits_grown g from bytes inner.shown room fits place, or_assoc (inner.pending place) (waits g place) (within from (length bytes) place));
 }
 
 -- and as after one that returns Ok

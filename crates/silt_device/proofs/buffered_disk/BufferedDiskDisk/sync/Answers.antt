@@ -30,8 +30,7 @@ loop-turn-preserved g c =
 
 pub returns-in-Err-clause-syncs : goal.returns-in-Err-clause-syncs
 returns-in-Err-clause-syncs g c =
-    let calls = c.loop-turn.invariant.calls in
-    let same : c.loop-turn.self-inside.calls.failures ≡ c.args.self.now.calls.failures = search (rules, calls) in
+    let same : c.loop-turn.self-inside.calls.failures ≡ c.args.self.now.calls.failures = search (rules, c.loop-turn.invariant.calls) in
     let new = g.D.Disk.content c.write.new.self in
     let long : c.len-size.result ≡ size (content_over_all c.loop-turn.self-inside.buffers new) =
     c.len-size.ensures ∙ sym (size_over_all c.loop-turn.self-inside.buffers new ∙ c.write.ensures.size ∙ c.loop-turn.invariant.frees.size) in
@@ -63,8 +62,7 @@ returns-in-Ok-clause-syncs g c =
 
 pub returns-in-Err-sync-clause-syncs : goal.returns-in-Err-sync-clause-syncs
 returns-in-Err-sync-clause-syncs g c =
-    let calls = c.loop-turn.invariant.calls in
-    let same : c.loop-turn.self-inside.calls.failures ≡ c.args.self.now.calls.failures = search (rules, calls) in
+    let same : c.loop-turn.self-inside.calls.failures ≡ c.args.self.now.calls.failures = search (rules, c.loop-turn.invariant.calls) in
     let new = g.D.Disk.content c.sync.new.self in
     let long : c.len-size.result ≡ size (content_over_all c.loop-turn.self-inside.buffers new) =
     c.len-size.ensures ∙ sym (size_over_all c.loop-turn.self-inside.buffers new ∙ c.sync.ensures.size ∙ c.loop-turn.invariant.frees.size) in

@@ -2,9 +2,8 @@ use Rattle.std.proofs.Common.{◌≡◌, ◌≤◌, ◌+◌, IsTrue, length, rul
 use Rattle.silt_disk.specs.Disk.{size}
 use Rattle.silt_disk.proofs.Costs.{made_both}
 use Rattle.silt_device.specs.Buffered.{buffered_content, takes, to_free}
-use Rattle.silt_device.proofs.Freeing.{appended_owes, appended_places, appended_tears, appended_writes, brought_places, freed_makes, frees_empty, frees_none}
-use Rattle.silt_device.proofs.Freeing.{frees_out, sizes_over_all, tears_over_all, way_made, way_none, way_owes, way_passed, way_stays, way_unwritten}
-use Rattle.silt_device.proofs.Freeing.{passes_appended, passes_written, writes_over_all}
+use Rattle.silt_device.proofs.Freeing.{appended_owes, appended_places, appended_tears, appended_writes, brought_places, freed_makes, frees_empty, frees_none, frees_out, sizes_over_all}
+use Rattle.silt_device.proofs.Freeing.{tears_over_all, way_made, way_none, way_owes, way_passed, way_stays, way_unwritten, passes_appended, passes_written, writes_over_all}
 use Rattle.silt_device.proofs.Gathering.{gathers_so}
 use Rattle.silt_device.proofs.Waiting.{size_over_all, stays_tears, stays_writes}
 use Rattle.silt_device.proofs.buffered_disk.BufferedDiskDisk.write.Goals as goal
@@ -36,10 +35,9 @@ loop-turn-preserved g c =
 
 pub write-requires-in-Err : goal.write-requires-in-Err
 write-requires-in-Err g c =
-    let b = c.self.inside.buffers in
     let fits : c.args.at + length c.args.buf.now ≤ size (buffered_content g.D.Disk.content c.args.self.now) = c.requires in
     let now = subst (λ s. c.args.at + length c.args.buf.now ≤ size (buffered_content g.D.Disk.content s)) (sym c.self.view_is) fits in
-    omega (arith, now, size_over_all b (g.D.Disk.content c.self.inside.inner), c.write.ensures.size, c.loop-turn.invariant.frees.size)
+    omega (arith, now, size_over_all c.self.inside.buffers (g.D.Disk.content c.self.inside.inner), c.write.ensures.size, c.loop-turn.invariant.frees.size)
 
 pub returns-in-Err-clause-writes : goal.returns-in-Err-clause-writes
 returns-in-Err-clause-writes g c =
