@@ -1,18 +1,17 @@
 -- A row more in the active log, and none.
-use Rattle.silt_engine.proofs.Common.{◌≡◌, ◌≤◌, ◌<◌, ℕ, ◌+◌, true, IsTrue, List, [], ◌∷◌, ◌++◌, map, Some, Ok, refl, ap, sym, ◌∙◌, subst, arith, append_assoc}
-use Rattle.silt_engine.proofs.Common.{map-append, ChangesWithin, Content, LeavesOnly, size, Shape, commits_at, log_size, row_len, Key, Kind, Put, Delete, body_at}
-use Rattle.silt_engine.proofs.Common.{log_rows, has_known_kind, stored_row, StoredRow, keys_of, put_count, puts_of, LogState, all_rows, settled_rows}
-use Rattle.silt_engine.proofs.Common.{waiting_rows, all_are_settled_and_waiting, IsLogStore, LogStoreState, Slots, index_of_keys, Stores, image_stores, IsSound}
-use Rattle.silt_engine.proofs.Common.{rows_of, with_log_rows, command_of, map_of_rows, count_law, AreWhole, EngineState, Stands, shown_stores, waiting_commands}
-use Rattle.silt_engine.proofs.Common.{Advances, SameDisk, ◌⊎◌, length, None, inl, inr, Ghosts, Command, map_after, all_count, NextLog, base_map, MovesIntoBase}
-use Rattle.silt_engine.proofs.Common.{HasFrozen, IsNextLog, append_cancel_right, body_in_region, KeepsStore, TakesRow, CanTake, FailsTake, IsFullFor, taken_law}
-use Rattle.silt_engine.proofs.Common.{WaitsAlone, WaitsBehind, CannotTake}
+use Rattle.silt_engine.proofs.Common.{◌≡◌, ◌≤◌, ◌<◌, ℕ, ◌+◌, true, IsTrue, List, [], ◌∷◌, ◌++◌, map, Some, Ok, refl, ap, sym, ◌∙◌, subst, arith, append_assoc, map-append, ChangesWithin}
+use Rattle.silt_engine.proofs.Common.{Content, LeavesOnly, size, Shape, commits_at, log_size, row_len, Key, Kind, Put, Delete, body_at, log_rows, has_known_kind, stored_row, StoredRow}
+use Rattle.silt_engine.proofs.Common.{keys_of, put_count, puts_of, LogState, all_rows, settled_rows, waiting_rows, all_are_settled_and_waiting, IsLogStore, LogStoreState, Slots}
+use Rattle.silt_engine.proofs.Common.{index_of_keys, Stores, image_stores, IsSound, rows_of, with_log_rows, command_of, map_of_rows, count_law, AreWhole, EngineState, Stands, shown_stores}
+use Rattle.silt_engine.proofs.Common.{waiting_commands, Advances, SameDisk, ◌⊎◌, length, None, inl, inr, Ghosts, Command, map_after, all_count, NextLog, base_map, MovesIntoBase, HasFrozen}
+use Rattle.silt_engine.proofs.Common.{IsNextLog, append_cancel_right, body_in_region, KeepsStore, TakesRow, CanTake, FailsTake, IsFullFor, taken_law, WaitsAlone, WaitsBehind, CannotTake}
 use Rattle.std.proofs.Common.{is_some}
 use Rattle.std.proofs.lemmas.List.{append-nil}
 use Rattle.silt_log_store.specs.Findings.{fits_table}
 use Rattle.silt_engine.proofs.Named.{named_body, named_shape, own_rows, rows_with_more}
 use Rattle.silt_engine.proofs.Facts.{active_is, base_is, has_active, rows_split}
-use Rattle.silt_engine.proofs.Standing.{Fits, after_same, digested_stays, fits_stand, frozen_stay, hashed_stay, located_stays, merged_stays, named_with, current_record_stays, shown_are, written_stays}
+use Rattle.silt_engine.proofs.Standing.{Fits, after_same, digested_stays, fits_stand, frozen_stay, hashed_stay, located_stays, merged_stays, named_with, current_record_stays, shown_are}
+use Rattle.silt_engine.proofs.Standing.{written_stays}
 use Rattle.silt_engine.proofs.Wholes.{whole_with_active, written_with_active}
 use Rattle.silt_log_store.specs.declared.log_store.TakeError.{TakeError}
 use Rattle.silt_log_store.specs.declared.log_store.TakeError.TheVariants.{Full, Read, Write}
@@ -50,8 +49,7 @@ module _ (old new : Content) (s : EngineState) (after : LogStoreState) (more : L
   -- each possible crash image has the stores that were shown
   named : LeavesOnly new (λ image. image_stores image ≡ Ok (shown_stores old s))
   named = record {
-    each = λ h image left.
-        (named_with old new s stands sizes changes (settled_rows old s.active.log) images).each h image left
+    each = λ h image left. (named_with old new s stands sizes changes _ images).each h image left
         ∙ ap Ok (own_rows (shown_stores old s) s.manifest.current.active (settled_rows old s.active.log) [] (active_is old s stands) (has_active old s stands (was h)));
   }
 
@@ -71,15 +69,18 @@ module _ (old new : Content) (s : EngineState) (after : LogStoreState) (more : L
     digested = digested_stays old new s stands sizes changes;
     written = written_with_active new s after charge stands.whole (written_stays old new s stands sizes changes);
     merged = merged_stays old new s stands sizes changes;
-    same_shape = named_shape s.manifest.shape s.manifest.current old.shown;
-    same_body = named_body s.manifest.shape s.manifest.current old.shown;
+    same_shape = named_shape _ _ _;
+    same_body = named_body _ _ _;
     named = named;
-    sound = λ h. subst (λ (rows : List StoredRow). IsSound (with_log_rows s.manifest.current.active rows (shown_stores old s))) (sym (all (was h))) (sound (was h));
+    sound = λ h. rw (← (all (was h))) at (sound (was h));
     said = λ h. stands.said (was h);
     counted = λ h.
-        counted ∙ ap (λ (n : ℕ). n + put_count more) (stands.counted (was h))
-        ∙ sym (count_law (rows_of (shown_stores old s) ++ waiting_rows old s.active.log) more)
-        ∙ ap put_count (append_assoc (rows_of (shown_stores old s)) (waiting_rows old s.active.log) more ∙ ap (λ (rows : List StoredRow). rows_of (shown_stores old s) ++ rows) (sym (waits (was h))));
+        cc (
+          stands.counted (was h),
+          count_law (rows_of (shown_stores old s) ++ waiting_rows old s.active.log) more,
+          append_assoc (rows_of (shown_stores old s)) (waiting_rows old s.active.log) more,
+          waits (was h),
+        );
   }
 
   -- the stores advance by the commands of the rows
@@ -144,30 +145,28 @@ module _ (old new : Content) (s : EngineState) (after : LogStoreState) (kind : K
         let rows : List StoredRow = all_rows old s.active.log in
         let one : List StoredRow = stored_row kind key value ∷ [] in
         let is_shape : t.shape ≡ s.manifest.shape = named_shape s.manifest.shape s.manifest.current old.shown in
-        let table : IsTrue (fits_table after.log.shape (rows ++ one)) =
-        table_fits after.log.shape (rows ++ one) after.table
-        (ap (λ (r : List StoredRow). index_of_keys after.log.shape.buckets (keys_of r)) (sym (takes.log.all h)) ∙ takes.stands.index.indexed (ready h)) in
+        let table : IsTrue (fits_table after.log.shape (rows ++ one)) = table_fits after.log.shape (rows ++ one) after.table (ap (λ (r : List StoredRow).
+        index_of_keys after.log.shape.buckets (keys_of r)) (sym (takes.log.all h)) ∙ takes.stands.index.indexed (ready h)) in
         let fits : IsTrue (fits_table t.shape (rows ++ one)) = subst (λ (sh : Shape). IsTrue (fits_table sh (rows ++ one))) (shape_same ∙ stands.whole.has_shape ∙ sym is_shape) table in
         let sound : IsSound (with_log_rows s.manifest.current.active rows t) = subst (λ (n : ℕ). IsSound (with_log_rows n rows t)) stands.whole.active_region (stands.sound h) in
         let all_of : rows_of (with_log_rows s.manifest.current.active (rows ++ one) t) ≡ (rows_of t ++ waiting_rows old s.active.log) ++ one =
         ap (λ (r : List StoredRow). rows_of (with_log_rows s.manifest.current.active r t))
         (ap (λ (r : List StoredRow). r ++ one) (rows_split old s stands) ∙ append_assoc (settled_rows old s.active.log) (waiting_rows old s.active.log) one)
-        ∙ rows_with_more t s.manifest.current.active (settled_rows old s.active.log) [] (active_is old s stands) (has_active old s stands h) (waiting_rows old s.active.log ++ one)
+        ∙ rows_with_more t _ _ [] (active_is old s stands) (has_active old s stands h) _
         ∙ sym (append_assoc (rows_of t) (waiting_rows old s.active.log) one) in
         let charged : put_count (rows_of (with_log_rows s.manifest.current.active (rows ++ one) t)) ≡ s.charge + puts_of kind =
         ap put_count all_of ∙ count_law (rows_of t ++ waiting_rows old s.active.log) one ∙ ap (λ (n : ℕ). n + put_count one) (sym (stands.counted h))
         ∙ ap (λ (n : ℕ). s.charge + n) (counted_stored kind key value) in
-        let capacity : t.shape.sorted_capacity ≡ s.manifest.shape.sorted_capacity = ap (λ (sh : Shape). sh.sorted_capacity) is_shape in
-        taken_law t s.manifest.current.active rows (stored_row kind key value) sound (known_stored kind key value) fits (omega (arith, charged, capacity, most))
+        taken_law t s.manifest.current.active rows (stored_row kind key value) sound (known_stored kind key value) fits (omega (arith, charged, ap (λ (sh : Shape). sh.sorted_capacity) is_shape, most))
 
     pub appended : Advances (command_of (stored_row kind key value) ∷ []) old new s (with_active s after charge)
-    appended = extended old new s after (stored_row kind key value ∷ []) charge stands sizes changed shape_same region_same takes.stands images takes.log.settled takes.log.all row_sound
-        (counted ∙ ap (λ (n : ℕ). s.charge + n) (sym (counted_stored kind key value))) (omega (arith, counted, most))
+    appended = extended old new s after _ charge stands sizes changed shape_same region_same takes.stands images takes.log.settled takes.log.all row_sound
+        (cc (counted_stored kind key value)) (omega (arith, counted, most))
 
     pub appended_waits : IsTrue old.honest → waiting_commands new (with_active s after charge) ≡ waiting_commands old s ++ command_of (stored_row kind key value) ∷ []
     appended_waits h =
-        ap (map command_of) (waits old new s after (stored_row kind key value ∷ []) charge stands sizes changed shape_same region_same takes.stands images takes.log.settled takes.log.all row_sound
-        (counted ∙ ap (λ (n : ℕ). s.charge + n) (sym (counted_stored kind key value))) (omega (arith, counted, most)) h)
+        ap (map command_of) (waits old new s after _ charge stands sizes changed shape_same region_same takes.stands images takes.log.settled takes.log.all row_sound
+        (cc (counted_stored kind key value)) (omega (arith, counted, most)) h)
         ∙ map-append command_of (waiting_rows old s.active.log) (stored_row kind key value ∷ [])
 
   -- the row was not taken
@@ -193,10 +192,7 @@ waits_behind command old new before after moves waits =
 -- what waits if all that waited went into the base
 pub waits_alone : (command : Command) (old new : Content) (before after : EngineState) → MovesIntoBase (command ∷ []) old new before after
     → waiting_commands new after ≡ command ∷ [] → WaitsAlone command (base_map old before) (base_map new after) (waiting_commands old before) (waiting_commands new after)
-waits_alone command old new before after moves waits =
-    let all : moves.moved ≡ waiting_commands old before =
-    append_cancel_right moves.moved (waiting_commands old before) (command ∷ []) (ap (λ (cs : List Command). moves.moved ++ cs) (sym waits) ∙ moves.rest) in
-    record { waiting = waits; base = moves.base ∙ ap (map_after (base_map old before)) all }
+waits_alone command old new before after moves waits = search (arith, append_cancel_right)
 
 -- the record that is current after the next log took the row, and what waits then
 pub turns_for : (command : Command) (old middle_content new : Content) (before middle after : EngineState) (next : NextLog) (key : List ℕ)
@@ -208,12 +204,8 @@ turns_for command old middle_content new before middle after next key disk needs
   region = is.region;
   lowest = is.lowest;
   current = ap (λ m. m.current) same ∙ frozen.current ∙ is.body;
-  waits = λ h. waits_alone command old new before after (goes.moves h) (waits (honest_after old middle_content disk h) ∙ ap (λ (cs : List Command). cs ++ command ∷ []) frozen.quiet.none_wait);
+  waits = λ h. waits_alone _ old new before after (goes.moves h) (cc (waits (honest_after old middle_content disk h), frozen.quiet.none_wait));
 }
-
--- the next log has no rows when it is active
-pub next_is_empty : (content : Content) (before after : EngineState) (next : NextLog) → IsNextLog before next → HasFrozen next content before after → after.active.log.used ≡ 0
-next_is_empty content before after next is frozen = ap (λ (t : LogStoreState). t.log.used) (frozen.active ∙ is.store)
 
 -- the active log cannot take a row if its store is full for the key
 cannot_take : (content : Content) (s : EngineState) (key : List ℕ) → Stands content s → IsFullFor content s.active key → CannotTake s.manifest.shape (all_rows content s.active.log) key
@@ -230,7 +222,7 @@ has_place content s key stands can honest cannot =
     subst (λ (n : ℕ). (n ≡ s.active.log.shape.log_capacity) ⊎ (index_of_keys s.active.log.shape.buckets (keys_of rows ++ key ∷ []) ≡ None)) (all_count content s.active.log)
     (subst (λ (sh : Shape). (length rows ≡ sh.log_capacity) ⊎ (index_of_keys sh.buckets (keys_of rows ++ key ∷ []) ≡ None)) (sym stands.whole.has_shape) cannot) in
     absurd (elim full [
-      | inl none ↦ let room = can.room in omega (arith, none, room)
+      | inl none ↦ omega (arith, none, can.room)
       | inr gone ↦ let is = can.placed honest in let not_is = ap is_some gone in cc
     ])
 
@@ -240,8 +232,8 @@ module _ {D F : Type 0} (facts : Ghosts D F) (old new : D) (s : EngineState) (af
       → ChangesWithin (body_at s.active.log.shape s.active.log.region s.active.log.used) (row_len s.active.log.shape) (facts.content old) (facts.content new)
       → LeavesOnly (facts.content new) (λ image. log_rows s.active.log.shape s.active.log.region image ≡ settled_rows (facts.content old) s.active.log)
       → after ≡ s.active → (error : TakeError F) → FailsTake facts old new s.active after key.0 error → TakeCause facts old new s (with_active s after s.charge) key.0 error
-  not_taken stands sizes changes images same Full fails = ((ap (λ (l : LogStoreState). with_active s l s.charge) same, fails.0), λ h. cannot_take (facts.content old) s key.0 stands (fails.1 h))
+  not_taken stands sizes changes images same Full fails = ((ap (λ (l : LogStoreState). with_active s l s.charge) same, fails.0), λ h. cannot_take _ s key.0 stands (fails.1 h))
   not_taken stands sizes changes images same (Read fault) fails = ((ap (λ (l : LogStoreState). with_active s l s.charge) same, fails.0), fails.1)
   not_taken stands sizes changes images same (Write fault) fails =
-      broke_off facts old new s (with_active s after s.charge) fault (record { size = sizes; honest = changes.honest }) stands fails.2
-      (not_appended (facts.content old) (facts.content new) s after kind key value 0 stands sizes fails.0.room changes images fails.1)
+      broke_off facts old new s _ fault (record { size = sizes; honest = changes.honest }) stands fails.2
+      (not_appended _ _ s after kind key value 0 stands sizes fails.0.room changes images fails.1)

@@ -1,7 +1,6 @@
 -- One call after another.
-use Rattle.silt_engine.proofs.Common.{IsTrue, List, [], ◌++◌, refl, ap, sym, ◌∙◌, subst, append_assoc, Content, Shape, Command, Map, map_after, StandsFor}
-use Rattle.silt_engine.proofs.Common.{image_map, map_after-append, EngineState, Stands, base_map, full_image, waiting_commands, Advances, Breaks, HoldsPrefix}
-use Rattle.silt_engine.proofs.Common.{MovesIntoBase, Remaps, SameDisk}
+use Rattle.silt_engine.proofs.Common.{arith, IsTrue, List, [], ◌++◌, ap, sym, ◌∙◌, subst, append_assoc, Content, Shape, Command, Map, map_after, StandsFor, image_map, map_after-append}
+use Rattle.silt_engine.proofs.Common.{EngineState, Stands, base_map, full_image, waiting_commands, Advances, Breaks, HoldsPrefix, MovesIntoBase, Remaps, SameDisk}
 use Rattle.std.proofs.lemmas.List.{append-nil}
 use Rattle.silt_engine.proofs.Facts.{base_safe, full_map}
 
@@ -22,10 +21,8 @@ pub moves_trans : (one two : List Command) (a b c : Content) (first second third
 moves_trans one two a b c first second third m n = record {
   moved = m.moved ++ n.moved;
   rest =
-      append_assoc m.moved n.moved (waiting_commands c third) ∙ ap (λ (cs : List Command). m.moved ++ cs) n.rest
-      ∙ sym (append_assoc m.moved (waiting_commands b second) two) ∙ ap (λ (cs : List Command). cs ++ two) m.rest
-      ∙ append_assoc (waiting_commands a first) one two;
-  base = n.base ∙ ap (λ (base : Map). map_after base n.moved) m.base ∙ sym (map_after-append (base_map a first) m.moved n.moved);
+      cc (append_assoc m.moved n.moved (waiting_commands c third), n.rest, append_assoc m.moved (waiting_commands b second) two, m.rest, append_assoc (waiting_commands a first) one two);
+  base = cc (n.base, m.base, map_after-append (base_map a first) m.moved n.moved);
 }
 
 -- two calls that advance
@@ -47,7 +44,7 @@ breaks_after a b c first second same later m breaks = record {
         kept = moves.moved ++ begun.kept;
         begins = record {
           rest = begun.begins.rest;
-          is = append_assoc moves.moved begun.kept begun.begins.rest ∙ ap (λ (cs : List Command). moves.moved ++ cs) begun.begins.is ∙ moves.rest ∙ append-nil (waiting_commands a first);
+          is = cc (append_assoc moves.moved begun.kept begun.begins.rest, begun.begins.is, moves.rest, append-nil (waiting_commands a first));
         };
         stands = subst (λ (m : Map). StandsFor first.manifest.shape m image) (ap (λ (base : Map). map_after base begun.kept) moves.base
             ∙ sym (map_after-append (base_map a first) moves.moved begun.kept))
@@ -58,19 +55,20 @@ breaks_after a b c first second same later m breaks = record {
 -- what two calls do to the map of the full image
 pub remaps_trans : (one two : List Command) (a b c : Content) (first second third : EngineState) → SameDisk a b → Remaps one a b first second
     → Remaps two b c second third → Remaps (one ++ two) a c first third
-remaps_trans one two a b c first second third same m n h =
-    n (honest_after a b same h) ∙ ap (λ (base : Map). map_after base two) (m h) ∙ sym (map_after-append (image_map (full_image a first)) one two)
+remaps_trans one two a b c first second third same m n h = cc (n (honest_after a b same h), m h, map_after-append (image_map (full_image a first)) one two)
 
 -- a call that advances changes the map by its commands
 pub advances_remap : (adds : List Command) (a b : Content) (first second : EngineState) → SameDisk a b → Stands a first → Advances adds a b first second → Remaps adds a b first second
 advances_remap adds a b first second same stands m h =
     let moves = m.moves h in
-    full_map b second m.stands (honest_after a b same h)
-    ∙ ap (λ (base : Map). map_after base (waiting_commands b second)) moves.base
-    ∙ sym (map_after-append (base_map a first) moves.moved (waiting_commands b second))
-    ∙ ap (map_after (base_map a first)) moves.rest
-    ∙ map_after-append (base_map a first) (waiting_commands a first) adds
-    ∙ ap (λ (m : Map). map_after m adds) (sym (full_map a first stands h))
+    cc (
+      full_map b second m.stands (honest_after a b same h),
+      moves.base,
+      map_after-append (base_map a first) moves.moved (waiting_commands b second),
+      moves.rest,
+      map_after-append (base_map a first) (waiting_commands a first) adds,
+      full_map a first stands h,
+    )
 
 -- and if it adds none, each possible crash image has a beginning of what waited
 pub advances_break : (a b : Content) (first second : EngineState) → SameDisk a b → Advances [] a b first second → Breaks a b first
@@ -87,8 +85,4 @@ advances_break a b first second same m = record {
 
 -- no call
 pub stays_still : (content : Content) (s : EngineState) → Stands content s → Advances [] content content s s
-stays_still content s stands = record {
-  stands = stands;
-  shape = refl;
-  moves = λ h. record { moved = []; rest = sym (append-nil (waiting_commands content s)); base = refl };
-}
+stays_still content s stands = search (arith, append-nil)

@@ -1,12 +1,9 @@
 -- A freeze: the record that names the new log, and the stores once it is current.
-use Rattle.silt_engine.proofs.Common.{inl, ◌≡◌, ◌≤◌, ◌<◌, ℕ, ◌+◌, IsTrue, List, [], ◌∷◌, ◌++◌, length, map, Option, Some, refl, ap, sym, ◌∙◌, subst, arith, All}
-use Rattle.silt_engine.proofs.Common.{IfSome, All-cons, Content, LeavesOnly, size, Shape, device_size, slot_at, shown_left, first_rows, log_rows, StoredRow}
-use Rattle.silt_engine.proofs.Common.{put_count, all_rows, waiting_rows, all_count, none_waiting, IsLogStore, LogStoreState, HasWritten, ManifestState}
-use Rattle.silt_engine.proofs.Common.{spare_slot, Body, Digests, Stores, stores_named, AreDigestsOf, HasActive, IsSound, rows_of, with_log_rows, command_of}
-use Rattle.silt_engine.proofs.Common.{map_of_rows, whole_law, NextLog, SortedState, AreWhole, IsHashOf, IsSettled, EngineState, oldest_log, region_of}
-use Rattle.silt_engine.proofs.Common.{sorted_named, IsFrozen, Stands, shown_stores, Advances, IsQuiet, own_digests, HasFrozen, IsEmptied, names_region}
-use Rattle.silt_engine.proofs.Common.{MayBecomeCurrent, BecomesCurrent, ◌-◌, ◌^◌, IsLowestFree, IsNextLog, empty_store, next_body, FreezesActive, freeze_law}
-use Rattle.silt_engine.proofs.Common.{new_active_law, new_log_law, frozen_law, active_replaced, ChangesOnlyActive}
+use Rattle.silt_engine.proofs.Common.{inl, ◌≡◌, ◌<◌, ℕ, IsTrue, List, [], length, refl, ap, sym, ◌∙◌, subst, arith, IfSome, All-cons, Content, LeavesOnly, size, Shape, device_size, slot_at}
+use Rattle.silt_engine.proofs.Common.{shown_left, first_rows, log_rows, StoredRow, all_rows, all_count, none_waiting, IsLogStore, LogStoreState, HasWritten, ManifestState, spare_slot, Body}
+use Rattle.silt_engine.proofs.Common.{Digests, Stores, stores_named, HasActive, IsSound, rows_of, with_log_rows, map_of_rows, whole_law, NextLog, AreWhole, IsSettled, EngineState}
+use Rattle.silt_engine.proofs.Common.{oldest_log, IsFrozen, Stands, shown_stores, Advances, IsQuiet, own_digests, HasFrozen, IsEmptied, names_region, MayBecomeCurrent, BecomesCurrent}
+use Rattle.silt_engine.proofs.Common.{IsNextLog, FreezesActive, freeze_law, new_active_law, new_log_law, frozen_law, active_replaced, ChangesOnlyActive}
 use Rattle.silt_log.specs.Rows.{rows_from}
 use Rattle.silt_image.specs.Meaning.{with_new_log}
 use Rattle.silt_engine.proofs.Named.{named_body, named_shape, own_rows}
@@ -51,18 +48,19 @@ module _ (old : Content) (s : EngineState) (next : NextLog) (digests : Digests) 
   store_region = ap (λ (t : LogStoreState). t.log.region) emptied.follows.store ∙ ap (λ (b : Body). b.active) (sym emptied.follows.body)
 
   t_shape : (shown_stores old s).shape ≡ s.manifest.shape
-  t_shape = named_shape s.manifest.shape s.manifest.current old.shown
+  t_shape = named_shape _ _ _
 
   t_body : (shown_stores old s).body ≡ s.manifest.current
-  t_body = named_body s.manifest.shape s.manifest.current old.shown
+  t_body = named_body _ _ _
 
   freezes : FreezesActive (shown_stores old s).body next.body
-  freezes = subst (λ (b : Body). FreezesActive b next.body) (sym t_body) (record {
-    frozen = ap (λ (b : Body). b.frozen) emptied.follows.body;
-    hashed = ap (λ (b : Body). b.hashed) emptied.follows.body;
-    sorted = ap (λ (b : Body). b.sorted) emptied.follows.body;
-    sorted_count = ap (λ (b : Body). b.sorted_count) emptied.follows.body;
-  })
+  freezes = rw t_body
+      (record {
+        frozen = ap (λ (b : Body). b.frozen) emptied.follows.body;
+        hashed = ap (λ (b : Body). b.hashed) emptied.follows.body;
+        sorted = ap (λ (b : Body). b.sorted) emptied.follows.body;
+        sorted_count = ap (λ (b : Body). b.sorted_count) emptied.follows.body;
+      })
 
   -- the stores under it
   abbrev frozen_stores : Stores
@@ -74,8 +72,7 @@ module _ (old : Content) (s : EngineState) (next : NextLog) (digests : Digests) 
   -- it names them in each image
   names : LeavesOnly old (λ image. stores_named s.manifest.shape next.body image ≡ frozen_stores)
   names = record {
-    each = λ h image left.
-        ap (λ (sh : Shape). stores_named sh next.body image) (sym t_shape)
+    each = λ h image left. ap (λ (sh : Shape). stores_named sh next.body image) (sym t_shape)
         ∙ freeze_law image (shown_stores old s) next.body (stands.named.each h image left) freezes
         (ap (λ (sh : Shape). log_rows sh next.body.active image) t_shape ∙ ap (λ (n : ℕ). log_rows s.manifest.shape n image) (sym store_region) ∙ emptied.images.each h image left);
   }
@@ -84,11 +81,11 @@ module _ (old : Content) (s : EngineState) (next : NextLog) (digests : Digests) 
   frozen_may_become_current = record {
     follows = λ sound. may_follow s next sound emptied.follows;
     stores = frozen_stores;
-    has_shape = new_shape next.body (shown_stores old s) ∙ t_shape;
-    has_body = new_body next.body (shown_stores old s);
+    has_shape = new_shape _ _ ∙ t_shape;
+    has_body = new_body _ _;
     names = names;
     sound = λ h. frozen_law (shown_stores old s) next.body (shown_sound old s stands h);
-    said = λ h. subst (λ (d : Digests). AreDigestsOf (Some d) frozen_stores) (sym digests_are) (frozen_said old s stands h next.body);
+    said = λ h. rw (← digests_are) at (frozen_said old s stands h next.body);
     same_map = λ h. ap map_of_rows frozen_rows ∙ sym (base_is old s);
     waiting = inl is_quiet;
   }
@@ -97,7 +94,7 @@ module _ (old : Content) (s : EngineState) (next : NextLog) (digests : Digests) 
 
   module _ (new : Content) (sizes : size new ≡ size old) (m : ManifestState) (now : BecomesCurrent old new s next.body digests m) where
     slot_below : spare_slot s.manifest < 2
-    slot_below = below_two (s.manifest.current.generation + 1)
+    slot_below = below_two _
 
     back : IsTrue new.honest → IsTrue old.honest
     back h = subst IsTrue now.changes.honest h
@@ -110,24 +107,15 @@ module _ (old : Content) (s : EngineState) (next : NextLog) (digests : Digests) 
     frozen_whole = record {
       has_shape = store_shape ∙ sym now.has_shape;
       active_region = store_region ∙ ap (λ (b : Body). b.active) (sym now.has_body);
-      frozen_regions =
-          ap (λ (n : ℕ). n ∷ map region_of s.frozen) stands.whole.active_region
-          ∙ ap (λ (ids : List ℕ). s.manifest.current.active ∷ ids) stands.whole.frozen_regions
-          ∙ ap (λ (b : Body). b.frozen) (sym emptied.follows.body) ∙ ap (λ (b : Body). b.frozen) (sym now.has_body);
-      settled = subst (λ (sh : Shape). All (IsSettled sh) (s.active ∷ s.frozen)) (sym now.has_shape)
-          (All-cons (IsSettled s.manifest.shape) s.active s.frozen (record { has_shape = stands.whole.has_shape; settled = is_quiet.settled }) stands.whole.settled);
-      hash_regions = stands.whole.hash_regions ∙ ap (λ (b : Body). b.hashed) (sym emptied.follows.body) ∙ ap (λ (b : Body). b.hashed) (sym now.has_body);
-      hashed = subst (λ (sh : Shape). All (IsHashOf sh) s.hashes) (sym now.has_shape) stands.whole.hashed;
-      sorted =
-          stands.whole.sorted ∙ ap (λ (sh : Shape). sorted_named sh s.manifest.current) (sym now.has_shape)
-          ∙ ap (λ (n : ℕ). let t : SortedState = record { shape = m.shape; region = n; count = s.manifest.current.sorted_count } in
-          t) (ap (λ (b : Body). b.sorted) (sym emptied.follows.body ∙ sym now.has_body))
-          ∙ ap (λ (n : ℕ). let t : SortedState = record { shape = m.shape; region = m.current.sorted; count = n } in
-          t) (ap (λ (b : Body). b.sorted_count) (sym emptied.follows.body ∙ sym now.has_body));
+      frozen_regions = cc (stands.whole.active_region, stands.whole.frozen_regions, emptied.follows.body, now.has_body);
+      settled = rw (← now.has_shape) at (All-cons (IsSettled s.manifest.shape) s.active s.frozen (record { has_shape = stands.whole.has_shape; settled = is_quiet.settled }) stands.whole.settled);
+      hash_regions = cc (stands.whole.hash_regions, emptied.follows.body, now.has_body);
+      hashed = rw (← now.has_shape) at stands.whole.hashed;
+      sorted = cc (stands.whole.sorted, now.has_shape, emptied.follows.body, now.has_body);
       held = stands.whole.held;
-      under_way = under_way_in s after s.converting now.has_shape (ap (λ (b : Body). b.hashed) now.has_body ∙ ap (λ (b : Body). b.hashed) emptied.follows.body) (omega arith) stands.whole.under_way;
-      merging = merging_in s after s.merging now.has_shape refl (omega arith) stands.whole.merging;
-      most = subst (λ (sh : Shape). s.charge ≤ sh.sorted_capacity) (sym now.has_shape) stands.whole.most;
+      under_way = under_way_in s after _ now.has_shape (cc (now.has_body, emptied.follows.body)) (omega arith) stands.whole.under_way;
+      merging = merging_in s after _ now.has_shape refl (omega arith) stands.whole.merging;
+      most = rw (← now.has_shape) at stands.whole.most;
     }
 
     -- the new log has no rows
@@ -155,7 +143,7 @@ module _ (old : Content) (s : EngineState) (next : NextLog) (digests : Digests) 
         (stands.has_size ∙ ap device_size (sym store_shape)) sizes (outside_slot next.store.log.shape next.store.log.region (spare_slot s.manifest) slot_below) now.changes
 
     written_after : IfSome s.converting (HasWritten new (oldest_log after))
-    written_after = written_in new s (oldest_log after) s.converting (oldest_behind s.active s.frozen next.store s.active) stands.whole.under_way (written_stays old new s stands sizes now.changes)
+    written_after = written_in new s _ _ (oldest_behind s.active s.frozen next.store s.active) stands.whole.under_way (written_stays old new s stands sizes now.changes)
 
     fits : Fits new after frozen_stores
     unfolding with_new_log frozen_may_become_current
@@ -178,17 +166,14 @@ module _ (old : Content) (s : EngineState) (next : NextLog) (digests : Digests) 
           let own : with_log_rows m.current.active [] frozen_stores ≡ frozen_stores =
           own_rows frozen_stores m.current.active [] [] (ap (λ (b : Body). b.active) (frozen_may_become_current.has_body ∙ sym now.has_body)) (now_active (back h)) in
           subst (λ (rows : List StoredRow). IsSound (with_log_rows m.current.active rows frozen_stores)) (sym new_rows) (subst IsSound (sym own) (frozen_may_become_current.sound (back h)));
-      said = λ h. subst (λ (o : Option Digests). AreDigestsOf o frozen_stores) (sym now.has_digests) (frozen_may_become_current.said (back h));
-      counted = λ h.
-          stands.counted (back h)
-          ∙ ap (λ (rows : List StoredRow). put_count (rows_of (shown_stores old s) ++ rows)) (none_waiting old s.active.log is_quiet.settled ∙ sym (none_waiting new next.store.log none_used))
-          ∙ ap (λ (rows : List StoredRow). put_count (rows ++ waiting_rows new next.store.log)) (sym frozen_rows);
+      said = λ h. rw (← now.has_digests) at (frozen_may_become_current.said (back h));
+      counted = λ h. cc (stands.counted (back h), none_waiting old s.active.log is_quiet.settled, none_waiting new next.store.log none_used, frozen_rows);
     }
 
     pub frozen_advances : Advances [] old new s (active_replaced s m next.store)
     unfolding frozen_may_become_current
-    frozen_advances = succeeds old new s next.body digests stands frozen_may_become_current sizes m now after fits now.has_shape
-        (λ h. ap (map command_of) (none_waiting new next.store.log none_used) ∙ ap (map command_of) (sym (none_waiting old s.active.log is_quiet.settled)))
+    frozen_advances = succeeds old new s _ _ stands frozen_may_become_current sizes m now after fits now.has_shape
+        (λ h. cc (none_waiting new next.store.log none_used, none_waiting old s.active.log is_quiet.settled))
 
     pub has_frozen : HasFrozen next new s (active_replaced s m next.store)
     has_frozen = record {
@@ -209,28 +194,9 @@ module _ (old : Content) (s : EngineState) (next : NextLog) (digests : Digests) 
 
 -- the next log of stores with the same manifest and as many frozen logs
 pub next_for : (s t : EngineState) (next : NextLog) → t.manifest ≡ s.manifest → t.frozen ≡ s.frozen → IsNextLog s next → IsNextLog t next
-next_for s t next manifest frozen is = record {
-  region = is.region;
-  lowest = subst (λ (m : ManifestState). IsLowestFree m.shape.logs m.current is.region) (sym manifest) is.lowest;
-  spare = subst (λ (m : ManifestState). length t.frozen + 1 < m.shape.logs) (sym manifest) (subst (λ (l : List LogStoreState). length l + 1 < s.manifest.shape.logs) (sym frozen) is.spare);
-  unspent = subst (λ (m : ManifestState). m.current.generation < 2 ^ 63 - 1) (sym manifest) is.unspent;
-  body = is.body ∙ ap (λ (m : ManifestState). next_body m.current is.region) (sym manifest);
-  store = is.store ∙ ap (λ (m : ManifestState). empty_store m.shape is.region) (sym manifest);
-}
+next_for s t next manifest frozen is = search arith
 
 -- the first log of later stores
 pub frozen_from : (next : NextLog) (content : Content) (first before after : EngineState) → ChangesOnlyActive first before
     → before.charge ≡ first.charge → HasFrozen next content before after → HasFrozen next content first after
-frozen_from next content first before last behind charge has = record {
-  quiet = has.quiet;
-  active = has.active;
-  current = has.current;
-  frozen = has.frozen ∙ ap (λ (l : List LogStoreState). length l + 1) behind.frozen;
-  hashes = has.hashes ∙ behind.hashes;
-  sorted = has.sorted ∙ behind.sorted;
-  index = has.index ∙ behind.index;
-  digest = has.digest ∙ behind.digest;
-  converting = has.converting ∙ behind.converting;
-  merging = has.merging ∙ behind.merging;
-  charge = has.charge ∙ charge;
-}
+frozen_from next content first before last behind charge has = search arith

@@ -1,10 +1,9 @@
 -- A conversion whose slots are all written: the stores in which its hash store replaces the oldest log.
-use Rattle.silt_engine.proofs.Common.{◌≡◌, ◌≢◌, ◌<◌, ℕ, ◌-◌, ◌*◌, IsTrue, List, ◌++◌, length, filter, get_or, Option, Some, Ok, ap, sym, ◌∙◌, subst, arith}
-use Rattle.silt_engine.proofs.Common.{IfSome, get_or-map, length-map, IsBucketCount, Content, Shape, log_rows, has_known_kind, StoredRow, put_count, all_rows}
-use Rattle.silt_engine.proofs.Common.{waiting_rows, IsFrozenStore, bucket_count_is, Body, Part, known_rows, Stores, image_stores, hash_part, hash_rows, IsSound}
-use Rattle.silt_engine.proofs.Common.{part_digest, rows_of, with_log_rows, map_of_rows, whole_law, count_law, ConversionState, HasWritten, IsDigestOf}
-use Rattle.silt_engine.proofs.Common.{converted_rows, HasOldest, IsTableOf, converted_charge, IsUnderWay, EngineState, oldest_log, region_of, IsFrozen, Stands}
-use Rattle.silt_engine.proofs.Common.{base_map, shown_stores, converted_body, ReplacesLog, with_converted, all_charged, all_digested, all_due}
+use Rattle.silt_engine.proofs.Common.{◌≡◌, ◌≢◌, ◌<◌, ℕ, ◌-◌, ◌*◌, IsTrue, List, ◌++◌, length, get_or, Option, Some, Ok, ap, sym, ◌∙◌, subst, arith, IfSome, get_or-map, length-map}
+use Rattle.silt_engine.proofs.Common.{IsBucketCount, Content, Shape, log_rows, StoredRow, put_count, all_rows, waiting_rows, IsFrozenStore, bucket_count_is, Body, Part, known_rows, Stores}
+use Rattle.silt_engine.proofs.Common.{image_stores, hash_rows, IsSound, part_digest, rows_of, with_log_rows, map_of_rows, whole_law, count_law, ConversionState, HasWritten, IsDigestOf}
+use Rattle.silt_engine.proofs.Common.{converted_rows, HasOldest, IsTableOf, converted_charge, IsUnderWay, EngineState, oldest_log, region_of, IsFrozen, Stands, base_map, shown_stores}
+use Rattle.silt_engine.proofs.Common.{converted_body, ReplacesLog, with_converted, all_charged, all_digested, all_due}
 use Rattle.silt_engine.proofs.ConvertStores.{converts, oldest_named, oldest_named_with, rows_converted, rows_named}
 use Rattle.silt_engine.proofs.Named.{named_body, named_here, named_shape, with_shape}
 use Rattle.silt_engine.proofs.Facts.{base_is, shown_named, shown_sound}
@@ -34,16 +33,11 @@ module _ (content : Content) (s : EngineState) (stands : Stands content s) (some
   last_id = get_or s.manifest.current.frozen (length s.manifest.current.frozen - 1) 0
 
   oldest_region : (oldest_log s).log.region ≡ last_id
-  oldest_region =
-      sym (get_or-map region_of s.frozen (length s.frozen - 1) s.active 0 last_inside)
-      ∙ ap (λ (l : List ℕ). get_or l (length s.frozen - 1) 0) stands.whole.frozen_regions
-      ∙ ap (λ (n : ℕ). get_or s.manifest.current.frozen (n - 1) 0) (sym ids)
+  oldest_region = cc (get_or-map region_of s.frozen (length s.frozen - 1) s.active 0 last_inside, stands.whole.frozen_regions, ids)
 
   -- its rows in an image
   oldest_rows : (image : List ℕ) → log_rows (oldest_log s).log.shape (oldest_log s).log.region image ≡ log_rows s.manifest.shape last_id image
-  oldest_rows image =
-      ap (λ (sh : Shape). log_rows sh (oldest_log s).log.region image) oldest_shape
-      ∙ ap (λ (n : ℕ). log_rows s.manifest.shape n image) oldest_region
+  oldest_rows image = cc (oldest_shape, oldest_region)
 
   -- are those that are shown
   shown_rows : IsTrue content.honest → log_rows s.manifest.shape last_id content.shown ≡ all_rows content (oldest_log s).log
@@ -51,11 +45,9 @@ module _ (content : Content) (s : EngineState) (stands : Stands content s) (some
 
   same_rows : IsTrue content.honest → (image : List ℕ) → image_stores image ≡ Ok (shown_stores content s) → log_rows s.manifest.shape last_id image ≡ log_rows s.manifest.shape last_id content.shown
   same_rows h image named =
-      let same_shape = named_shape s.manifest.shape s.manifest.current content.shown in
-      let same_body = named_body s.manifest.shape s.manifest.current content.shown in
-      rows_named s.manifest.shape s.manifest.current (length s.manifest.current.frozen - 1) 0 content.shown image
-      (named_here s.manifest.shape s.manifest.current (shown_stores content s) image named same_shape same_body)
-      (omega (arith, some_ids))
+      let same_shape = named_shape _ _ _ in
+      let same_body = named_body _ _ _ in
+      rows_named _ _ _ 0 _ image (named_here _ _ _ image named same_shape same_body) (omega (arith, some_ids))
 
   -- in each possible crash image
   pub oldest_stands : IsFrozenStore content (oldest_log s)
@@ -68,8 +60,7 @@ module _ (content : Content) (s : EngineState) (stands : Stands content s) (some
 
   -- it is not the active log
   not_the_active : IsTrue content.honest → last_id ≢ s.manifest.current.active
-  not_the_active h same =
-      not_active content s stands h (oldest_log s).log.region (frozen_named s stands.whole.frozen_regions (length s.frozen - 1) s.active last_inside) (oldest_region ∙ same)
+  not_the_active h same = not_active _ s stands h _ (frozen_named s stands.whole.frozen_regions _ _ last_inside) (oldest_region ∙ same)
 
 -- ---- the stores without it
 
@@ -78,7 +69,7 @@ module _ (content : Content) (s : EngineState) (stands : Stands content s) (conv
   way = subst (λ (o : Option ConversionState). IfSome o (IsUnderWay s)) was stands.whole.under_way
 
   pub has_written : HasWritten content (oldest_log s) conversion
-  has_written = subst (λ (o : Option ConversionState). IfSome o (HasWritten content (oldest_log s))) was stands.written
+  has_written = rw was at stands.written
 
   abbrev rows : List StoredRow
   rows = all_rows content (oldest_log s).log
@@ -87,7 +78,7 @@ module _ (content : Content) (s : EngineState) (stands : Stands content s) (conv
   t = shown_stores content s
 
   t_shape : t.shape ≡ s.manifest.shape
-  t_shape = named_shape s.manifest.shape s.manifest.current content.shown
+  t_shape = named_shape _ _ _
 
   -- the record that is current then, the hash store, and the stores
   abbrev pub ending_body : Body
@@ -101,24 +92,23 @@ module _ (content : Content) (s : EngineState) (stands : Stands content s) (conv
 
   -- the oldest log has these rows, also once the waiting rows are settled
   pub oldest : IsTrue content.honest → HasOldest rows t
-  oldest h = subst (λ (r : List StoredRow). HasOldest r t) (shown_rows content s stands way.some_frozen h)
-      (oldest_named s.manifest.shape s.manifest.current 0 content.shown (some_ids content s stands way.some_frozen))
+  oldest h = rw (shown_rows content s stands way.some_frozen h) at (oldest_named s.manifest.shape s.manifest.current 0 content.shown (some_ids content s stands way.some_frozen))
 
   abbrev full : Stores
   full = with_log_rows s.manifest.current.active (all_rows content s.active.log) (shown_stores content s)
 
   pub oldest_full : IsTrue content.honest → HasOldest rows full
   oldest_full h =
-      subst (λ (r : List StoredRow). HasOldest r full) (shown_rows content s stands way.some_frozen h)
-      (oldest_named_with s.manifest.shape s.manifest.current 0 content.shown s.manifest.current.active (all_rows content s.active.log)
-      (some_ids content s stands way.some_frozen) (not_the_active content s stands way.some_frozen h))
+      rw (shown_rows content s stands way.some_frozen h) at (oldest_named_with s.manifest.shape s.manifest.current 0 content.shown s.manifest.current.active
+      (all_rows content s.active.log) (some_ids content s stands way.some_frozen) (not_the_active content s stands way.some_frozen h))
 
   -- and their table
   pub table_of : IsTrue content.honest → IsTableOf t.shape rows (oldest_log s).table
   table_of h =
-      let log_shape : (oldest_log s).log.shape ≡ t.shape = oldest_shape content s stands way.some_frozen ∙ sym t_shape in
-      let indexed = (oldest_frozen content s stands way.some_frozen).indexed in
-      subst (λ (sh : Shape). IsTableOf sh rows (oldest_log s).table) log_shape (record {
+      let log_shape : (oldest_log s).log.shape ≡ t.shape = oldest_shape _ s stands way.some_frozen ∙ sym t_shape in
+      let indexed = (oldest_frozen _ s stands way.some_frozen).indexed in
+      rw (← log_shape)
+      (record {
         count = subst (λ (sh : Shape). IsBucketCount sh.buckets) (sym log_shape) (bucket_count_is t.shape.buckets (whole_law content.shown t (shown_named content s stands h)).limits.buckets);
         known = indexed.known h;
         indexed = indexed.indexed h;
@@ -126,11 +116,11 @@ module _ (content : Content) (s : EngineState) (stands : Stands content s) (conv
 
   -- the hash store may replace the log
   replaces : IsTrue content.honest → ReplacesLog rows ending_part t ending_stores
-  replaces h = converts t ending_body rows (oldest_log s).table conversion.region (oldest h) (table_of h) (shown_sound content s stands h)
+  replaces h = converts t ending_body rows (oldest_log s).table conversion.region (oldest h) (table_of h) (shown_sound _ s stands h)
 
   -- with the same map
   pub ending_map : IsTrue content.honest → map_of_rows (rows_of ending_stores) ≡ base_map content s
-  ending_map h = (replaces h).map ∙ sym (base_is content s)
+  ending_map h = (replaces h).map ∙ sym (base_is _ s)
 
   -- nothing is found in them
   pub ending_sound : IsTrue content.honest → IsSound ending_stores
@@ -142,8 +132,7 @@ module _ (content : Content) (s : EngineState) (stands : Stands content s) (conv
       let all : List StoredRow = all_rows content s.active.log in
       let same : full.shape ≡ t.shape = with_shape s.manifest.current.active all t in
       let sound : IsSound full = subst (λ (n : ℕ). IsSound (with_log_rows n all t)) stands.whole.active_region (stands.sound h) in
-      let is = (converts full ending_body rows (oldest_log s).table conversion.region (oldest_full h)
-      (subst (λ (sh : Shape). IsTableOf sh rows (oldest_log s).table) (sym same) (table_of h)) sound).sound in
+      let is = (converts full ending_body rows (oldest_log s).table conversion.region (oldest_full h) (rw (← same) at (table_of h)) sound).sound in
       subst IsSound (sym (rows_converted s.manifest.current.active all ending_body ending_part t))
       (subst (λ (sh : Shape). IsSound (with_converted ending_body (record { region = conversion.region; rows = converted_rows sh (oldest_log s).table rows }) full)) same is)
 
@@ -153,30 +142,27 @@ module _ (content : Content) (s : EngineState) (stands : Stands content s) (conv
 
     -- the slots show the hash store
     pub ending_slots : IsTrue content.honest → hash_rows s.manifest.shape conversion.region content.shown ≡ ending_part.rows
-    ending_slots h =
-        ap (λ (sh : Shape). hash_rows sh conversion.region content.shown) (sym way.has_shape)
-        ∙ all_due content (oldest_log s) conversion done has_written h
-        ∙ ap (λ (sh : Shape). converted_rows sh (oldest_log s).table rows) same_shape
+    ending_slots h = cc (way.has_shape, all_due content (oldest_log s) conversion done has_written h, same_shape)
 
     -- the digest of what was hashed is its digest
     pub ending_digest : (digest : List ℕ) → IsDigestOf conversion.hasher digest → IsTrue content.honest → digest ≡ part_digest ending_part
-    ending_digest digest finalizes h =
-        all_digested content (oldest_log s) conversion digest done has_written h finalizes
-        ∙ ap (λ (sh : Shape). part_digest (hash_part sh content.shown conversion.region)) way.has_shape
-        ∙ ap (λ (l : List StoredRow). let part : Part = record { region = conversion.region; rows = l } in part_digest part) (ending_slots h)
+    ending_digest digest finalizes h = cc (all_digested content (oldest_log s) conversion digest done has_written h finalizes, way.has_shape, ending_slots h)
 
     -- the puts that went away do not count
     pub ending_counted : IsTrue content.honest → (charge : ℕ) → charge ≡ s.charge - ((oldest_log s).puts - conversion.puts)
         → charge ≡ put_count (rows_of ending_stores ++ waiting_rows content s.active.log)
     ending_counted h charge is =
         let waiting : List StoredRow = waiting_rows content s.active.log in
-        let log_puts : (oldest_log s).puts ≡ put_count rows = (oldest_frozen content s stands way.some_frozen).indexed.counted h in
         let part_puts : conversion.puts ≡ put_count (known_rows ending_part) =
-        all_charged content (oldest_log s) conversion done has_written h
-        ∙ ap (λ (sh : Shape). put_count (filter has_known_kind (converted_rows sh (oldest_log s).table rows))) same_shape in
-        let fewer = converted_charge t.shape rows (oldest_log s).table (table_of h) in
-        let moved = (replaces h).charge in
-        let behind = count_law (rows_of ending_stores) waiting in
-        let before = count_law (rows_of t) waiting in
-        let counted = stands.counted h in
-        omega (arith, is, log_puts, part_puts, fewer, moved, behind, before, counted)
+        cc (all_charged content (oldest_log s) conversion done has_written h, same_shape) in
+        omega (
+          arith,
+          is,
+          (oldest_frozen _ s stands way.some_frozen).indexed.counted h,
+          part_puts,
+          converted_charge t.shape rows (oldest_log s).table (table_of h),
+          (replaces h).charge,
+          count_law (rows_of ending_stores) waiting,
+          count_law (rows_of t) waiting,
+          stands.counted h,
+        )

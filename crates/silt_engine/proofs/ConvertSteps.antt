@@ -1,12 +1,10 @@
 -- The steps of a conversion, at their exits.
-use Rattle.silt_engine.proofs.Common.{◌≡◌, ◌≤◌, ◌<◌, ℕ, ◌+◌, ◌-◌, ◌*◌, ◌^◌, ◌==◌, Bool, true, if◌then◌else◌, List, [], length, replicate, Option, Some, None}
-use Rattle.silt_engine.proofs.Common.{inl, inr, refl, ap, sym, ◌∙◌, subst, arith, IfSome, eq-eqb, ne_eqb, get_or_from_slice_get, slice_get_within}
-use Rattle.silt_engine.proofs.Common.{ChangesWithin, Content, CountsFault, size, Ghosts, InLimits, Shape, row_len, IsFrozenStore, LogStoreState}
-use Rattle.silt_engine.proofs.Common.{bucket_count_is, is_well_formed, current_slot, Body, Digests, Digest, HashState, ConversionState, HasWritten, IsDigestOf}
-use Rattle.silt_engine.proofs.Common.{hash_slot_at, Progress, Finished, Idle, Moved, AreWhole, IsUnderWay, EngineState, names_hash, oldest_log, Stands}
-use Rattle.silt_engine.proofs.Common.{Advances, Breaks, Remaps, AreAllHashesNamed, EndsConversion, convert_turn, converted_body, is_work, cases_eq, GaveAny}
-use Rattle.silt_engine.proofs.Common.{FailsStep, Steps, Waiting, digests_with, ConvertErrorCause, Converts, IsLowestFreeHash, IsNextStep, progress_due}
-use Rattle.silt_engine.proofs.Common.{written_by}
+use Rattle.silt_engine.proofs.Common.{◌≡◌, ◌<◌, ℕ, ◌+◌, ◌-◌, ◌*◌, ◌^◌, ◌==◌, true, if◌then◌else◌, List, [], length, replicate, Option, Some, None, inl, inr, refl, ap, sym, ◌∙◌, subst, arith}
+use Rattle.silt_engine.proofs.Common.{IfSome, eq-eqb, ne_eqb, get_or_from_slice_get, slice_get_within, ChangesWithin, Content, CountsFault, size, Ghosts, InLimits, Shape, row_len}
+use Rattle.silt_engine.proofs.Common.{IsFrozenStore, LogStoreState, bucket_count_is, is_well_formed, current_slot, Body, Digests, Digest, HashState, ConversionState, HasWritten, IsDigestOf}
+use Rattle.silt_engine.proofs.Common.{hash_slot_at, Progress, Finished, Idle, Moved, AreWhole, IsUnderWay, EngineState, names_hash, oldest_log, Stands, Advances, Breaks, Remaps}
+use Rattle.silt_engine.proofs.Common.{AreAllHashesNamed, EndsConversion, convert_turn, converted_body, is_work, cases_eq, GaveAny, FailsStep, Steps, Waiting, digests_with, ConvertErrorCause}
+use Rattle.silt_engine.proofs.Common.{Converts, IsLowestFreeHash, progress_due, written_by}
 use Rattle.silt_conversion.specs.declared.conversion.StepError.TheVariants as step_error
 use Rattle.std.specs.Prelude.{slice_get}
 use Rattle.std.proofs.lemmas.Option.{slice_get_cases}
@@ -20,16 +18,11 @@ use Rattle.silt_engine.proofs.ConvertSlots.{slot_advances, slot_breaks, slot_map
 
 -- the last of the frozen logs is the oldest
 pub last_log : (s : EngineState) (log : LogStoreState) → Some log ≡ slice_get s.frozen (length s.frozen - 1) → (0 < length s.frozen) × (log ≡ oldest_log s)
-last_log s log is =
-    let inside = slice_get_within s.frozen (length s.frozen - 1) log (sym is) in
-    (omega (arith, inside), sym (get_or_from_slice_get s.frozen (length s.frozen - 1) log s.active (sym is)))
+last_log s log is = search (arith, slice_get_within, get_or_from_slice_get)
 
 -- a list without a last element has none
 no_last : {X : Type 0} (xs : List X) → slice_get xs (length xs - 1) ≡ None → length xs ≡ 0
-no_last xs last = elim (slice_get_cases xs (length xs - 1)).1 [
-  | inl here ↦ absurd (let no : Some here.0 ≡ None = sym here.2 ∙ last in cc)
-  | inr past ↦ omega (arith, past.0)
-]
+no_last xs last = search (arith, slice_get_cases)
 
 -- ---- the progress that is due
 
@@ -41,9 +34,9 @@ module _ (s : EngineState) where
   pub moves_below : (conversion : ConversionState) → s.converting ≡ Some conversion → IsUnderWay s conversion → convert_turn s ≡ Moved → conversion.next < 4 * conversion.shape.buckets
   moves_below conversion was way turn = elim (cases_eq conversion.next (4 * s.manifest.shape.buckets)) [
     | inl all ↦
-        let finished : convert_turn s ≡ Finished = ap due was ∙ ap (λ (b : Bool). if b then Finished else Moved) (eq-eqb conversion.next (4 * s.manifest.shape.buckets) all) in
+        let finished : convert_turn s ≡ Finished = cc (eq-eqb conversion.next (4 * s.manifest.shape.buckets) all) in
         absurd (let no : Moved ≡ Finished = sym turn ∙ finished in cc)
-    | inr more ↦ subst (λ (sh : Shape). conversion.next < 4 * sh.buckets) (sym way.has_shape) (omega (arith, more, way.most))
+    | inr more ↦ rw way.has_shape (omega (arith, more, way.most))
   ]
 
   -- all slots of one that finishes are written
@@ -51,27 +44,25 @@ module _ (s : EngineState) where
   all_written conversion was way turn = elim (cases_eq conversion.next (4 * s.manifest.shape.buckets)) [
     | inl all ↦ subst (λ (sh : Shape). conversion.next ≡ 4 * sh.buckets) (sym way.has_shape) all
     | inr more ↦
-        let moved : convert_turn s ≡ Moved = ap due was ∙ ap (λ (b : Bool). if b then Finished else Moved) (ne_eqb conversion.next (4 * s.manifest.shape.buckets) more) in
+        let moved : convert_turn s ≡ Moved = cc (ne_eqb conversion.next (4 * s.manifest.shape.buckets) more) in
         absurd (let no : Finished ≡ Moved = sym turn ∙ moved in cc)
   ]
 
   -- without frozen logs, as the last one of what was read shows, and with no conversion in progress
   pub idle_turn : s.converting ≡ None → (read : List LogStoreState) → read ≡ s.frozen → slice_get read (length read - 1) ≡ None → convert_turn s ≡ Idle
-  idle_turn none read same last = ap due none ∙ ap (λ (b : Bool). if b then Idle else if length s.hashes == s.manifest.shape.hashes then Waiting else Moved)
-      (eq-eqb (length s.frozen) 0 (ap length (sym same) ∙ no_last read last))
+  idle_turn none read same last = cc (none, eq-eqb (length s.frozen) 0 (ap length (sym same) ∙ no_last read last))
 
   -- with frozen logs, no conversion in progress, and this many hash stores
   pub begins_turn : s.converting ≡ None → 0 < length s.frozen → convert_turn s ≡ (if length s.hashes == s.manifest.shape.hashes then Waiting else Moved)
-  begins_turn none some = ap due none ∙ ap (λ (b : Bool). if b then Idle else if length s.hashes == s.manifest.shape.hashes then Waiting else Moved)
-      (ne_eqb (length s.frozen) 0 (λ e. absurd (omega (arith, e, some))))
+  begins_turn none some = cc (none, ne_eqb (length s.frozen) 0 (λ e. absurd (omega (arith, e, some))))
 
   -- every hash region is in use
   pub waits_turn : s.converting ≡ None → 0 < length s.frozen → length s.hashes ≡ s.manifest.shape.hashes → convert_turn s ≡ Waiting
-  waits_turn none some all = begins_turn none some ∙ ap (λ (b : Bool). if b then Waiting else Moved) (eq-eqb (length s.hashes) s.manifest.shape.hashes all)
+  waits_turn none some all = cc (begins_turn none some, eq-eqb (length s.hashes) s.manifest.shape.hashes all)
 
   -- one is free
   pub moves_turn : s.converting ≡ None → 0 < length s.frozen → length s.hashes < s.manifest.shape.hashes → convert_turn s ≡ Moved
-  moves_turn none some fewer = begins_turn none some ∙ ap (λ (b : Bool). if b then Waiting else Moved) (ne_eqb (length s.hashes) s.manifest.shape.hashes (λ e. absurd (omega (arith, e, fewer))))
+  moves_turn none some fewer = cc (begins_turn none some, ne_eqb (length s.hashes) s.manifest.shape.hashes (λ e. absurd (omega (arith, e, fewer))))
 
 -- ---- the end
 
@@ -83,7 +74,7 @@ pub may_finish : (s : EngineState) (body : Body) (digests : Digests) (conversion
 may_finish s body digests conversion digest sorted hashes whole was turn unspent is digested hashes_are sorted_is digests_are = record {
   conversion = conversion;
   was = was;
-  done = all_written s conversion was (subst (λ (o : Option ConversionState). IfSome o (IsUnderWay s)) was whole.under_way) turn;
+  done = all_written s _ was (subst (λ (o : Option ConversionState). IfSome o (IsUnderWay s)) was whole.under_way) turn;
   unspent = unspent;
   is = is;
   digest = digest.0;
@@ -100,37 +91,31 @@ module _ (old new : Content) (s : EngineState) (log : LogStoreState) (before aft
     (changes : ChangesWithin (hash_slot_at before.shape before.region before.next) (row_len before.shape) old new) where
   -- in the words of the stores
   next_below : before.next < 4 * s.manifest.shape.buckets
-  next_below = subst (λ (sh : Shape). before.next < 4 * sh.buckets) way.has_shape below
+  next_below = rw way.has_shape at below
 
   slot_changes : ChangesWithin (hash_slot_at s.manifest.shape before.region before.next) (row_len s.manifest.shape) old new
-  slot_changes = subst (λ (sh : Shape). ChangesWithin (hash_slot_at sh before.region before.next) (row_len sh) old new) way.has_shape changes
+  slot_changes = rw way.has_shape at changes
 
   -- ---- it was not written
 
   pub failed_breaks : Breaks old new s
-  failed_breaks = slot_breaks old new s before.region before.next stands way.free way.there next_below sizes slot_changes None tt tt
+  failed_breaks = slot_breaks old new s _ _ stands way.free way.there next_below sizes slot_changes None tt tt
 
   pub failed_map : (converting : Option ConversionState) → Remaps [] old new s (record s { converting = converting })
-  failed_map converting = slot_map old new s before.region before.next stands way.free way.there next_below sizes slot_changes None tt tt
+  failed_map converting = slot_map old new s _ _ stands way.free way.there next_below sizes slot_changes None tt tt
 
   -- ---- it was written
 
   module _ (steps : Steps log old new before after) (written : IsFrozenStore old log → HasWritten old log before → HasWritten new log after) where
     -- the conversion is in progress
     pub way_after : IsUnderWay s after
-    way_after = subst (IsUnderWay s) (sym steps.next) (record {
-      has_shape = way.has_shape;
-      some_frozen = way.some_frozen;
-      there = way.there;
-      free = way.free;
-      most = omega (arith, next_below);
-    })
+    way_after = search (arith, way, next_below)
 
     written_after : HasWritten new (oldest_log s) after
-    written_after = subst (λ (l : LogStoreState). HasWritten new l after) log_is (written (subst (IsFrozenStore old) (sym log_is) (oldest_stands old s stands way.some_frozen)) was_written)
+    written_after = rw log_is at (written (subst (IsFrozenStore old) (sym log_is) (oldest_stands old s stands way.some_frozen)) was_written)
 
     pub step_advances : Advances [] old new s (record s { converting = Some after })
-    step_advances = slot_advances old new s before.region before.next stands way.free way.there next_below sizes slot_changes (Some after) way_after written_after
+    step_advances = slot_advances old new s _ _ stands way.free way.there next_below sizes slot_changes _ way_after written_after
 
 -- ---- the next slot of the conversion under way
 
@@ -144,7 +129,7 @@ module _ (old new : Content) (s : EngineState) (log : LogStoreState) (before aft
   more = moves_below s before was going turn
 
   wrote : HasWritten old log before
-  wrote = subst (λ (l : LogStoreState). HasWritten old l before) (sym (last_log s log read).1) (has_written old s stands before was)
+  wrote = rw (← (last_log s log read).1) at (has_written old s stands before was)
 
   pub next_failed_breaks : Breaks old new s
   next_failed_breaks = failed_breaks old new s log before after stands (last_log s log read).1 going more wrote sizes changes
@@ -159,14 +144,7 @@ module _ (old new : Content) (s : EngineState) (log : LogStoreState) (before aft
 -- of the stores in memory with the conversion one slot on
 pub next_converts : (s : EngineState) (before after : ConversionState) (tags : List (Option ℕ)) → s.converting ≡ Some before → convert_turn s ≡ Moved
     → after ≡ record before { next = before.next + 1; tags = tags; puts = after.puts; hasher = after.hasher } → Converts Moved s (record s { converting = Some after })
-next_converts s before after tags was turn next = record {
-  due = sym turn;
-  done = record {
-    conversion = after;
-    is = refl;
-    step = subst (λ (o : Option ConversionState). IsNextStep s o after) (sym was) (ap (λ (v : ConversionState). v.region) next, ap (λ (v : ConversionState). v.next) next);
-  };
-}
+next_converts s before after tags was turn next = search arith
 
 -- ---- the first slot of a new one
 
@@ -187,22 +165,21 @@ module _ (s : EngineState) (log : LogStoreState) (current : Body) (hashes region
   -- no region is free
   pub begin_waits : AreAllHashesNamed hashes current → Converts Waiting s s
   begin_waits all = record {
-    due = sym (waits_turn s may.none some (no_hash_free s (current_slot s.manifest) may.whole may.sound
-        (subst (λ (n : ℕ). AreAllHashesNamed n s.manifest.current) may.hashes_are (subst (λ (b : Body). AreAllHashesNamed hashes b) may.same_current all))));
+    due = sym (waits_turn s may.none some (no_hash_free s _ may.whole may.sound (rw (may.same_current, may.hashes_are) at all)));
     done = refl;
   }
 
   module _ (lowest_read : IsLowestFreeHash hashes current region) where
     pub lowest_here : IsLowestFreeHash s.manifest.shape.hashes s.manifest.current region
-    lowest_here = subst (λ (n : ℕ). IsLowestFreeHash n s.manifest.current region) may.hashes_are (subst (λ (b : Body). IsLowestFreeHash hashes b region) may.same_current lowest_read)
+    lowest_here = rw (may.same_current, may.hashes_are) at lowest_read
 
     pub begin_turn : convert_turn s ≡ Moved
-    begin_turn = moves_turn s may.none some (hash_free s (current_slot s.manifest) region may.whole may.sound lowest_here.below lowest_here.free)
+    begin_turn = moves_turn s may.none some (hash_free s _ region may.whole may.sound lowest_here.below lowest_here.free)
 
     module _ (started : ConversionState) (is : started ≡ record
         { shape = log.log.shape; region = region; tags = replicate (4 * log.log.shape.buckets) None; next = 0; puts = 0; hasher = started.hasher }) (limits : InLimits s.manifest.shape) where
       log_shape : log.log.shape ≡ s.manifest.shape
-      log_shape = ap (λ (l : LogStoreState). l.log.shape) (last_log s log may.read).1 ∙ (may.whole.settled (length s.frozen - 1) s.active (omega (arith, some))).has_shape
+      log_shape = cc ((last_log s log may.read).1, (may.whole.settled (length s.frozen - 1) s.active (omega (arith, some))).has_shape)
 
       pub started_shape : started.shape ≡ s.manifest.shape
       started_shape = ap (λ (v : ConversionState). v.shape) is ∙ log_shape
@@ -217,16 +194,13 @@ module _ (s : EngineState) (log : LogStoreState) (current : Body) (hashes region
       started_way = record {
         has_shape = started_shape;
         some_frozen = some;
-        there = subst (λ (n : ℕ). n < s.manifest.shape.hashes) (sym started_region) lowest_here.below;
+        there = rw (← started_region) at lowest_here.below;
         free = ap (names_hash s.manifest.current) started_region ∙ lowest_here.free;
         most = omega (arith, started_none);
       }
 
       started_below : started.next < 4 * started.shape.buckets
-      started_below =
-          let least : 2 ≤ s.manifest.shape.buckets = (bucket_count_is s.manifest.shape.buckets limits.buckets).least in
-          let here : s.manifest.shape.buckets ≡ started.shape.buckets = ap (λ (sh : Shape). sh.buckets) (sym started_shape) in
-          omega (arith, least, here, started_none)
+      started_below = search (arith, bucket_count_is, started_shape, started_none)
 
       -- of the stores in memory with a conversion one slot on
       module _ (after : ConversionState) (tags : List (Option ℕ)) (next : after ≡ record started { next = started.next + 1; tags = tags; puts = after.puts; hasher = after.hasher }) where
@@ -236,7 +210,7 @@ module _ (s : EngineState) (log : LogStoreState) (current : Body) (hashes region
           done = record {
             conversion = after;
             is = refl;
-            step = subst (λ (o : Option ConversionState). IsNextStep s o after) (sym may.none) (
+            step = rw may.none (
               subst (IsLowestFreeHash s.manifest.shape.hashes s.manifest.current) (sym (ap (λ (v : ConversionState). v.region) next ∙ started_region)) lowest_here,
               ap (λ (v : ConversionState). v.next) next ∙ ap (λ (n : ℕ). n + 1) started_none,
             );
@@ -246,14 +220,14 @@ module _ (s : EngineState) (log : LogStoreState) (current : Body) (hashes region
       module _ (old new : Content) (after : ConversionState) (stands : Stands old s) (wrote : HasWritten old log started) (sizes : size new ≡ size old)
           (changes : ChangesWithin (hash_slot_at started.shape started.region started.next) (row_len started.shape) old new) where
         pub first_failed_breaks : Breaks old new s
-        first_failed_breaks = failed_breaks old new s log started after stands (last_log s log may.read).1 started_way started_below wrote sizes changes
+        first_failed_breaks = failed_breaks old new s log _ after stands (last_log s log may.read).1 started_way started_below wrote sizes changes
 
         pub first_failed_map : Remaps [] old new s s
         first_failed_map = failed_map old new s log started after stands (last_log s log may.read).1 started_way started_below wrote sizes changes s.converting
 
         module _ (steps : Steps log old new started after) (written : IsFrozenStore old log → HasWritten old log started → HasWritten new log after) where
           pub first_advances : Advances [] old new s (record s { converting = Some after })
-          first_advances = step_advances old new s log started after stands (last_log s log may.read).1 started_way started_below wrote sizes changes steps written
+          first_advances = step_advances old new s log _ after stands (last_log s log may.read).1 started_way started_below wrote sizes changes steps written
 
 -- ---- why it was not
 

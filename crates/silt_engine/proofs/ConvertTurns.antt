@@ -1,14 +1,11 @@
 -- The end of a conversion: the record that names the hash store, and the stores once it is current.
-use Rattle.silt_engine.proofs.Common.{inr, ◌≡◌, ◌≤◌, ◌<◌, ℕ, ◌-◌, IsTrue, List, [], ◌∷◌, ◌++◌, length, map, take, get_or, Option, Some, None, refl, ap, sym}
-use Rattle.silt_engine.proofs.Common.{◌∙◌, subst, arith, All, IfSome, take-map, All-cons, All-take, index_of_keys, IsBucketCount, Content, LeavesOnly, Rests}
-use Rattle.silt_engine.proofs.Common.{Torn, size, Shape, device_size, slot_at, left_at_rest, log_rows, StoredRow, keys_of, put_count, all_rows, KeepsRows}
-use Rattle.silt_engine.proofs.Common.{log_rows_elsewhere, part_rows, IsFrozenStore, bucket_count_is, ManifestState, spare_slot, Body, Digests, Stores}
-use Rattle.silt_engine.proofs.Common.{stores_named, AreDigestsOf, IsSound, rows_of, with_log_rows, command_of, whole_law, ConversionState, HasWritten}
-use Rattle.silt_engine.proofs.Common.{IsDigestOf, converted_rows, hash_rows, IsHashStore, IsHeldHash, HashState, MergeState, HasCompared, HasMerged}
-use Rattle.silt_engine.proofs.Common.{SortedState, AreWhole, IsHashOf, IsMerging, IsSettled, IsUnderWay, EngineState, oldest_log, region_of, sorted_named}
-use Rattle.silt_engine.proofs.Common.{HasGathered, IsFrozen, Stands, full_image, shown_stores, Advances, MayBecomeCurrent, BecomesCurrent, EndsConversion}
-use Rattle.silt_engine.proofs.Common.{MayReplace, converted_body, oldest_replaced, oldest_rows, store_of, Part, HasOldest, store_stands, oldest_stores_law}
-use Rattle.silt_engine.proofs.Common.{AreConverted, Finishes, HasConvertedRows, get_or-append_seam}
+use Rattle.silt_engine.proofs.Common.{inr, ◌≡◌, ◌<◌, ℕ, ◌-◌, IsTrue, List, [], ◌∷◌, ◌++◌, length, map, get_or, Option, Some, None, refl, ap, sym, ◌∙◌, subst, arith, IfSome, take-map}
+use Rattle.silt_engine.proofs.Common.{All-cons, All-take, index_of_keys, IsBucketCount, Content, LeavesOnly, Rests, Torn, size, Shape, device_size, slot_at, left_at_rest, log_rows}
+use Rattle.silt_engine.proofs.Common.{StoredRow, keys_of, all_rows, KeepsRows, log_rows_elsewhere, part_rows, IsFrozenStore, bucket_count_is, ManifestState, spare_slot, Body, Digests}
+use Rattle.silt_engine.proofs.Common.{Stores, stores_named, AreDigestsOf, IsSound, with_log_rows, command_of, whole_law, ConversionState, HasWritten, IsDigestOf, converted_rows, hash_rows}
+use Rattle.silt_engine.proofs.Common.{IsHashStore, IsHeldHash, MergeState, AreWhole, IsHashOf, IsMerging, IsSettled, IsUnderWay, EngineState, oldest_log, region_of, HasGathered, IsFrozen}
+use Rattle.silt_engine.proofs.Common.{Stands, full_image, shown_stores, Advances, MayBecomeCurrent, BecomesCurrent, EndsConversion, MayReplace, converted_body, oldest_replaced, oldest_rows}
+use Rattle.silt_engine.proofs.Common.{store_of, Part, HasOldest, store_stands, oldest_stores_law, AreConverted, Finishes, HasConvertedRows, get_or-append_seam}
 use Rattle.silt_engine.proofs.Named.{named_shape}
 use Rattle.silt_engine.proofs.Facts.{shown_named}
 use Rattle.silt_engine.proofs.Elsewhere.{frozen_named, indexed_same, named_below, outside_slot, scanned_all}
@@ -19,8 +16,8 @@ use Rattle.silt_engine.proofs.Turns.{active_stays, digested_stays, frozen_stays,
 use Rattle.silt_engine.proofs.NextBodies.{now_named, succeeds}
 use Rattle.silt_engine.proofs.ConvertStores.{converted_named, converted_current, converted_shape, oldest_named}
 use Rattle.silt_engine.proofs.Said.{converted_said}
-use Rattle.silt_engine.proofs.ConvertDone.{ending_counted, ending_digest, ending_full_sound, ending_map, ending_slots, ending_sound, ending_stores}
-use Rattle.silt_engine.proofs.ConvertDone.{oldest_frozen, oldest_shape, oldest_stands, table_of, way, oldest, oldest_full, some_ids, ids, last_inside}
+use Rattle.silt_engine.proofs.ConvertDone.{ending_counted, ending_digest, ending_full_sound, ending_map, ending_slots, ending_sound, ending_stores, oldest_frozen, oldest_shape}
+use Rattle.silt_engine.proofs.ConvertDone.{oldest_stands, table_of, way, oldest, oldest_full, some_ids, ids, last_inside}
 use Rattle.silt_engine.proofs.MergeDone.{full_is}
 use Rattle.std.proofs.lemmas.List.{length-append}
 use Rattle.silt_image.specs.Meaning.{with_log_rows}
@@ -33,7 +30,7 @@ use Rattle.silt_engine.specs.Replacements.{with_converted}
 last_is : {X : Type 0} (xs : List X) (x d : X) → get_or (xs ++ x ∷ []) (length (xs ++ x ∷ []) - 1) d ≡ x
 last_is xs x d =
     let long : length (xs ++ x ∷ []) - 1 ≡ length xs = omega (arith, length-append xs (x ∷ [])) in
-    ap (λ (n : ℕ). get_or (xs ++ x ∷ []) n d) long ∙ get_or-append_seam xs x [] d
+    cc (get_or-append_seam xs x [] d)
 
 -- a part with no rows
 abbrev pub no_part : Part
@@ -44,7 +41,7 @@ one_oldest : (rows other : List StoredRow) (t : Stores) → HasOldest rows t →
 one_oldest rows other t has also = sym (last rows has) ∙ last other also
   where
     last : (r : List StoredRow) → HasOldest r t → part_rows (get_or t.logs (length t.logs - 1) no_part) ≡ r
-    last r is = ap (λ (l : List Part). part_rows (get_or l (length l - 1) no_part)) is.logs ∙ ap part_rows (last_is is.newer (record { region = is.region; rows = r }) no_part)
+    last r is = cc (is.logs, last_is is.newer (record { region = is.region; rows = r }) no_part)
 
 -- its rows in the full image are those that a disk with the same stores shows, if it obeys the crash model
 pub oldest_same : (first old : Content) (s : EngineState) (stood : Stands first s) (stands : Stands old s) (conversion : ConversionState)
@@ -56,7 +53,7 @@ oldest_same first old s stood stands conversion was was_honest h same =
     subst (HasOldest (oldest_rows s.manifest.shape s.manifest.current (full_image first s))) (full_is first s stood was_honest) named in
     one_oldest (oldest_rows s.manifest.shape s.manifest.current (full_image first s)) (all_rows first (oldest_log s).log) _ full (oldest_full first s stood conversion was was_honest)
     ∙ one_oldest (all_rows first (oldest_log s).log) (all_rows old (oldest_log s).log) (shown_stores first s) (oldest first s stood conversion was was_honest)
-    (subst (HasOldest (all_rows old (oldest_log s).log)) same (oldest old s stands conversion was h))
+    (rw same at (oldest old s stands conversion was h))
 
 -- ---- the hash store in front
 
@@ -80,16 +77,18 @@ module _ (old : Content) (s : EngineState) (body : Body) (digests : Digests) (st
 
   -- the stores under it
   abbrev converted_stores : Stores
-  converted_stores = ending_stores old s stands ends.conversion ends.was
+  converted_stores = ending_stores old s stands _ ends.was
 
   -- it names them in each possible crash image, since nothing is pending
   names : LeavesOnly old (λ image. stores_named s.manifest.shape body image ≡ converted_stores)
   names = record {
     each = λ h image left.
-        ap (λ (shown : List ℕ). stores_named s.manifest.shape body shown) (left_at_rest rests h image left)
-        ∙ ap (λ (b : Body). stores_named s.manifest.shape b old.shown) ends.is
-        ∙ converted_named s.manifest.shape s.manifest.current ends.conversion.region _ old.shown (some_ids old s stands under_way.some_frozen)
-        (ending_slots old s stands ends.conversion ends.was ends.done h);
+        cc (
+          left_at_rest rests h image left,
+          ends.is,
+          converted_named s.manifest.shape s.manifest.current ends.conversion.region _ old.shown (some_ids old s stands under_way.some_frozen) (ending_slots old s
+              stands ends.conversion ends.was ends.done h),
+        );
   }
 
   -- the digests are theirs
@@ -102,12 +101,12 @@ module _ (old : Content) (s : EngineState) (body : Body) (digests : Digests) (st
   converted_may_become_current = record {
     follows = λ sound. may_end s body digests sound stands.whole ends;
     stores = converted_stores;
-    has_shape = converted_shape _ _ _ ∙ named_shape s.manifest.shape s.manifest.current old.shown;
+    has_shape = converted_shape _ _ _ ∙ named_shape _ _ _;
     has_body = converted_current _ _ _ ∙ sym ends.is;
     names = names;
-    sound = ending_sound old s stands ends.conversion ends.was;
+    sound = ending_sound old s stands _ ends.was;
     said = said;
-    same_map = ending_map old s stands ends.conversion ends.was;
+    same_map = ending_map old s stands _ ends.was;
     waiting = inr (ap (λ (b : Body). b.active) ends.is);
   }
 
@@ -127,25 +126,16 @@ module _ (old : Content) (s : EngineState) (body : Body) (digests : Digests) (st
     whole : (digest : List ℕ) → IsHeldHash (store_of ends.conversion digest) → AreWhole (oldest_replaced s m ends.conversion digest)
     whole digest held = record {
       has_shape = stands.whole.has_shape ∙ sym now.has_shape;
-      active_region = stands.whole.active_region ∙ ap (λ (b : Body). b.active) (sym current_is);
-      frozen_regions =
-          sym (take-map region_of (length s.frozen - 1) s.frozen)
-          ∙ ap (take (length s.frozen - 1)) stands.whole.frozen_regions
-          ∙ ap (λ (n : ℕ). take (n - 1) s.manifest.current.frozen) (sym (ids old s stands under_way.some_frozen))
-          ∙ ap (λ (b : Body). b.frozen) (sym current_is);
-      settled = subst (λ (sh : Shape). All (IsSettled sh) (take (length s.frozen - 1) s.frozen)) (sym now.has_shape)
-          (All-take (IsSettled s.manifest.shape) (length s.frozen - 1) s.frozen stands.whole.settled);
-      hash_regions = ap (λ (l : List ℕ). ends.conversion.region ∷ l) stands.whole.hash_regions ∙ ap (λ (b : Body). b.hashed) (sym current_is);
-      hashed = subst (λ (sh : Shape). All (IsHashOf sh) (store_of ends.conversion digest ∷ s.hashes)) (sym now.has_shape)
-          (All-cons (IsHashOf s.manifest.shape) (store_of ends.conversion digest) s.hashes (held_of digest held) stands.whole.hashed);
-      sorted =
-          stands.whole.sorted ∙ ap (λ (sh : Shape). sorted_named sh s.manifest.current) (sym now.has_shape)
-          ∙ ap (λ (n : ℕ). let t : SortedState = record { shape = m.shape; region = n; count = s.manifest.current.sorted_count } in t) (ap (λ (b : Body). b.sorted) (sym current_is))
-          ∙ ap (λ (n : ℕ). let t : SortedState = record { shape = m.shape; region = m.current.sorted; count = n } in t) (ap (λ (b : Body). b.sorted_count) (sym current_is));
+      active_region = cc (stands.whole.active_region, current_is);
+      frozen_regions = cc (take-map region_of (length s.frozen - 1) s.frozen, stands.whole.frozen_regions, ids old s stands under_way.some_frozen, current_is);
+      settled = rw (← now.has_shape) at (All-take (IsSettled s.manifest.shape) (length s.frozen - 1) s.frozen stands.whole.settled);
+      hash_regions = cc (stands.whole.hash_regions, current_is);
+      hashed = rw (← now.has_shape) at (All-cons (IsHashOf s.manifest.shape) (store_of ends.conversion digest) s.hashes (held_of digest held) stands.whole.hashed);
+      sorted = cc (stands.whole.sorted, now.has_shape, current_is);
       held = stands.whole.held;
       under_way = tt;
-      merging = merging_in s (oldest_replaced s m ends.conversion digest) s.merging now.has_shape refl (omega arith) stands.whole.merging;
-      most = subst (λ (sh : Shape). s.charge - ((oldest_log s).puts - ends.conversion.puts) ≤ sh.sorted_capacity) (sym now.has_shape) (let most = stands.whole.most in omega (arith, most));
+      merging = merging_in s _ _ now.has_shape refl (omega arith) stands.whole.merging;
+      most = rw now.has_shape (omega (arith, stands.whole.most));
     }
 
     pub may_replace : MayReplace s m
@@ -157,7 +147,7 @@ module _ (old : Content) (s : EngineState) (body : Body) (digests : Digests) (st
 
     -- and so is what the conversion wrote
     slots_stay : HasWritten new (oldest_log s) ends.conversion
-    slots_stay = subst (λ (o : Option ConversionState). IfSome o (HasWritten new (oldest_log s))) ends.was (written_stays old new s stands sizes now.changes)
+    slots_stay = rw ends.was at (written_stays old new s stands sizes now.changes)
 
     -- the oldest log is as it was in each possible crash image
     log_shape : (oldest_log s).log.shape ≡ s.manifest.shape
@@ -195,8 +185,7 @@ module _ (old : Content) (s : EngineState) (body : Body) (digests : Digests) (st
     count : IsTrue new.honest → IsBucketCount ends.conversion.shape.buckets
     count h =
         let limits = (whole_law old.shown (shown_stores old s) (shown_named old s stands (back h))).limits in
-        subst (λ (sh : Shape). IsBucketCount sh.buckets) (named_shape s.manifest.shape s.manifest.current old.shown ∙ sym under_way.has_shape)
-        (bucket_count_is (shown_stores old s).shape.buckets limits.buckets)
+        rw (named_shape s.manifest.shape s.manifest.current old.shown ∙ sym under_way.has_shape) at (bucket_count_is (shown_stores old s).shape.buckets limits.buckets)
 
     -- ---- with the digest of what was written
 
@@ -208,23 +197,23 @@ module _ (old : Content) (s : EngineState) (body : Body) (digests : Digests) (st
       -- the new hash store matches the disk
       store_is : IsHashStore new (store_of ends.conversion digest)
       store_is = record {
-        sound = λ h. (store_stands new (oldest_log s) ends.conversion digest (count h) ends.done digested oldest_stays slots_stay).sound h;
-        tagged = λ h. (store_stands new (oldest_log s) ends.conversion digest (count h) ends.done digested oldest_stays slots_stay).tagged h;
-        counted = λ h. (store_stands new (oldest_log s) ends.conversion digest (count h) ends.done digested oldest_stays slots_stay).counted h;
-        digested = λ h. (store_stands new (oldest_log s) ends.conversion digest (count h) ends.done digested oldest_stays slots_stay).digested h;
+        sound = λ h. (store_stands new _ _ digest (count h) ends.done digested oldest_stays slots_stay).sound h;
+        tagged = λ h. (store_stands new _ _ digest (count h) ends.done digested oldest_stays slots_stay).tagged h;
+        counted = λ h. (store_stands new _ _ digest (count h) ends.done digested oldest_stays slots_stay).counted h;
+        digested = λ h. (store_stands new _ _ digest (count h) ends.done digested oldest_stays slots_stay).digested h;
       }
 
       -- a merge has gathered and written what it had: its stores are the oldest ones still
       gathered_stays : IfSome s.merging (HasGathered new after)
-      gathered_stays = in_front s.merging stands.whole.merging (merged_stays old new s stands sizes now.changes)
+      gathered_stays = in_front _ stands.whole.merging (merged_stays old new s stands sizes now.changes)
         where
           in_front : (o : Option MergeState) → IfSome o (IsMerging s) → IfSome o (HasGathered new s) → IfSome o (HasGathered new after)
           in_front None merging merged = tt
           in_front (Some merge) merging merged =
               let way : IsMerging s merge = merging in
               let same = sym (oldest_stores_law (store_of ends.conversion digest ∷ []) s.hashes merge.stores way.most) in (
-                subst (λ (l : List HashState). HasMerged new l s.sorted merge) same merged.0,
-                subst (λ (l : List HashState). HasCompared l s.sorted s.digest merge) same merged.1,
+                rw same at merged.0,
+                rw same at merged.1,
                 merged.2,
               )
 
@@ -245,14 +234,15 @@ module _ (old : Content) (s : EngineState) (body : Body) (digests : Digests) (st
         same_shape = converted_may_become_current.has_shape ∙ sym now.has_shape;
         same_body = converted_may_become_current.has_body ∙ sym now.has_body;
         named = now_named old new s body digests stands converted_may_become_current sizes m now;
-        sound = λ h.
-            subst (λ (n : ℕ). IsSound (with_log_rows n (all_rows new s.active.log) converted_stores)) (ap (λ (b : Body). b.active) (sym current_is))
+        sound = λ h. subst (λ (n : ℕ). IsSound (with_log_rows n (all_rows new s.active.log) converted_stores)) (ap (λ (b : Body). b.active) (sym current_is))
             (subst (λ (rows : List StoredRow). IsSound (with_log_rows s.manifest.current.active rows converted_stores)) (sym (keeps.all (back h)))
             (ending_full_sound old s stands ends.conversion ends.was (back h)));
-        said = λ h. subst (λ (o : Option Digests). AreDigestsOf o converted_stores) (sym now.has_digests) (converted_may_become_current.said (back h));
+        said = λ h. rw (← now.has_digests) at (converted_may_become_current.said (back h));
         counted = λ h.
-            ending_counted old s stands ends.conversion ends.was ends.done (back h) (s.charge - ((oldest_log s).puts - ends.conversion.puts)) refl
-            ∙ ap (λ (rows : List StoredRow). put_count (rows_of converted_stores ++ rows)) (sym (waiting_stays old new s stands sizes now.changes (back h)));
+            cc (
+              ending_counted old s stands ends.conversion ends.was ends.done (back h) (s.charge - ((oldest_log s).puts - ends.conversion.puts)) refl,
+              waiting_stays old new s stands sizes now.changes (back h),
+            );
       }
 
       -- and still stand
@@ -260,9 +250,8 @@ module _ (old : Content) (s : EngineState) (body : Body) (digests : Digests) (st
       unfolding converted_may_become_current
       converted_advances finished is_whole is =
           let whole_after : AreWhole (oldest_replaced s m ends.conversion digest) = subst AreWhole is is_whole in
-          subst (λ (t : EngineState). Advances [] old new s t) (sym is)
-          (succeeds old new s body digests stands converted_may_become_current sizes m now after (fits whole_after) now.has_shape
-          (λ h. ap (map command_of) (waiting_stays old new s stands sizes now.changes h)))
+          rw (← is) at (succeeds old new s body digests stands converted_may_become_current sizes m now after (fits whole_after) now.has_shape (λ h. ap (map command_of)
+          (waiting_stays old new s stands sizes now.changes h)))
 
       -- its slots have the rows that are due
       slots_now : AreWhole (oldest_replaced s m ends.conversion digest) → IsTrue old.honest
@@ -295,26 +284,24 @@ module _ (old : Content) (s : EngineState) (body : Body) (digests : Digests) (st
                 ap (λ (l : List StoredRow). index_of_keys s.manifest.shape.buckets (keys_of l)) log_rows_are
                 ∙ ap (λ (sh : Shape). index_of_keys sh.buckets (keys_of (all_rows old (oldest_log s).log))) (sym table_shape)
                 ∙ (table_of old s stands ends.conversion ends.was h).indexed;
-            are =
-                ap (λ (t : EngineState). hash_rows s.manifest.shape ends.conversion.region (full_image new t)) is
-                ∙ slots_now (subst AreWhole is is_whole) h
-                ∙ ap (converted_rows s.manifest.shape (oldest_log s).table) (sym log_rows_are);
+            are = cc (slots_now (subst AreWhole is is_whole) h);
           } in
           subst (λ (o : Option ConversionState). IfSome o
           (λ conversion. AreConverted s.manifest.shape rows (hash_rows s.manifest.shape conversion.region (full_image new finished)))) (sym ends.was) converted
 
       -- the conversion is finished
       pub converted_finishes : (finished : EngineState) → finished ≡ oldest_replaced s m ends.conversion digest → Finishes s finished
-      converted_finishes finished is = subst (λ (t : EngineState). Finishes s t) (sym is) (record {
-        conversion = ends.conversion;
-        was = ends.was;
-        none = refl;
-        shape = now.has_shape;
-        current = current_is;
-        active = refl;
-        frozen = refl;
-        sorted = refl;
-        index = refl;
-        digest = refl;
-        merging = refl;
-      })
+      converted_finishes finished is = rw is
+          (record {
+            conversion = ends.conversion;
+            was = ends.was;
+            none = refl;
+            shape = now.has_shape;
+            current = current_is;
+            active = refl;
+            frozen = refl;
+            sorted = refl;
+            index = refl;
+            digest = refl;
+            merging = refl;
+          })

@@ -1,42 +1,29 @@
 -- Which log regions are free, and how many.
-use Rattle.silt_engine.proofs.Common.{◌≡◌, ◌≢◌, ◌≤◌, ◌<◌, ℕ, ◌+◌, ◌-◌, ◌%◌, ◌^◌, ◌==◌, ◌||◌, Bool, true, false, not, nat_lt, suc, zero, List, [], ◌∷◌, length}
-use Rattle.silt_engine.proofs.Common.{inl, inr, refl, ap, sym, ◌∙◌, arith, list_any, eqb, and_parts, cases_Bool, eq-eqb, eqb-true, eqb-false, lt-ltb, ltb-true}
-use Rattle.silt_engine.proofs.Common.{not-true, and_from, Shape, all_below, has_sound_logs, is_distinct, is_well_formed, Body, AreAllNamed, IsLowestFree}
-use Rattle.silt_engine.proofs.Common.{next_body, nat_le, take, Option, Some, subst, IfSome, nat_tests, length-map, length-take, has_sound_hashes, IsNext}
-use Rattle.silt_engine.proofs.Common.{current_slot, spare_slot, Digests, AreWhole, IsUnderWay, EngineState, hash_region_of, names_hash, ConversionState}
-use Rattle.silt_engine.proofs.Common.{AreAllHashesNamed, EndsConversion, converted_body, le-leb, MergeState, IndexedState, EndsMerge, merged_body, IsMerging}
-use Rattle.silt_engine.proofs.Common.{NextLog, region_of, IsNextLog, empty_store, AllByRecursion, range_with_len, length-range_with_len, nat_eq_equiv}
-use Rattle.silt_engine.proofs.Common.{HasNoFreeLog}
+use Rattle.silt_engine.proofs.Common.{ne_eqb, or_parts, ◌≡◌, ◌≢◌, ◌≤◌, ◌<◌, ℕ, ◌+◌, ◌-◌, ◌%◌, ◌^◌, ◌==◌, true, false, not, nat_lt, suc, zero, List, [], ◌∷◌, length, inl, inr, refl, ap, sym}
+use Rattle.silt_engine.proofs.Common.{◌∙◌, arith, list_any, eqb, and_parts, eq-eqb, eqb-true, lt-ltb, ltb-true, not-true, and_from, Shape, all_below, has_sound_logs, is_distinct}
+use Rattle.silt_engine.proofs.Common.{is_well_formed, Body, AreAllNamed, IsLowestFree, next_body, nat_le, take, Option, Some, subst, IfSome, nat_tests, length-map, length-take}
+use Rattle.silt_engine.proofs.Common.{has_sound_hashes, IsNext, current_slot, spare_slot, Digests, AreWhole, IsUnderWay, EngineState, hash_region_of, names_hash, ConversionState}
+use Rattle.silt_engine.proofs.Common.{AreAllHashesNamed, EndsConversion, converted_body, le-leb, MergeState, IndexedState, EndsMerge, merged_body, IsMerging, NextLog, region_of, IsNextLog}
+use Rattle.silt_engine.proofs.Common.{empty_store, AllByRecursion, range_with_len, length-range_with_len, nat_eq_equiv, HasNoFreeLog}
 use Rattle.std.specs.List.{IsDistinct}
+use Rattle.std.proofs.lemmas.Bool.{or_cases, or_from}
 use Rattle.std.proofs.lemmas.Map.Made.{length-le_from_is_member}
 use Rattle.std.proofs.lemmas.Map.Steps.{length-le_from_distinct_below}
 use Rattle.silt_manifest.proofs.SoundBodies.{sound_parts}
 
--- numbers that differ
-pub told_apart : (a b : ℕ) → a ≢ b → eqb a b ≡ false
-told_apart a b differ = elim (cases_Bool (eqb a b)) [
-  | inl same ↦ absurd (differ (eqb-true a b same))
-  | inr other ↦ other
-]
-
+-- a test of two numbers from either side
 turned : (a b : ℕ) → eqb a b ≡ eqb b a
-turned a b = elim (cases_Bool (eqb a b)) [
-  | inl same ↦ same ∙ sym (eq-eqb b a (sym (eqb-true a b same)))
-  | inr other ↦ other ∙ sym (told_apart b a (λ e. eqb-false a b other (sym e)))
-]
+turned a b = grind (arith, nat_tests)
 
 -- a test of the elements from either side
 any_turned : (ids : List ℕ) (x : ℕ) → list_any (λ id. id == x) ids ≡ list_any (eqb x) ids
 any_turned [] x = refl
-any_turned (id ∷ ids) x =
-    let first : eqb id x ≡ eqb x id = turned id x in
-    let others : list_any (λ other. other == x) ids ≡ list_any (eqb x) ids = any_turned ids x in
-    ap (λ (b : Bool). b || list_any (λ other. other == x) ids) first ∙ ap (λ (b : Bool). eqb x id || b) others
+any_turned (id ∷ ids) x = cc (turned id x, any_turned ids x)
 
 -- no number from b on is one below it
 above : (a b n : ℕ) → a < b → AllByRecursion (λ y. eqb a y ≡ false) (range_with_len b n)
 above a b zero below = tt
-above a b (suc n) below = (told_apart a b (λ e. absurd (omega arith)), above a (b + 1) n (omega arith))
+above a b (suc n) below = (ne_eqb a b (λ e. absurd (omega arith)), above a (b + 1) n (omega arith))
 
 distinct_range : (a n : ℕ) → IsDistinct eqb (range_with_len a n)
 unfolding IsDistinct
@@ -46,11 +33,9 @@ distinct_range a (suc n) = (above a (a + 1) n (omega arith), distinct_range (a +
 -- a number among those from a on
 in_range : (a n x : ℕ) → list_any (eqb x) (range_with_len a n) ≡ true → x < a + n
 in_range a zero x e = absurd (let no : false ≡ true = e in cc)
-in_range a (suc n) x e = elim (cases_Bool (eqb x a)) [
-  | inl same ↦ let is : x ≡ a = eqb-true x a same in omega arith
-  | inr other ↦
-      let rest : list_any (eqb x) (range_with_len (a + 1) n) ≡ true = ap (λ (b : Bool). b || list_any (eqb x) (range_with_len (a + 1) n)) (sym other) ∙ e in
-      let h = in_range (a + 1) n x rest in omega arith
+in_range a (suc n) x e = elim (or_cases (eqb x a) (list_any (eqb x) (range_with_len (a + 1) n)) e) [
+  | inl same ↦ omega (arith, eqb-true x a same)
+  | inr rest ↦ omega (arith, in_range (a + 1) n x rest)
 ]
 
 -- with all of n regions among them there are as many ids
@@ -62,10 +47,7 @@ all_among n ids among =
 -- distinct ids in std's words
 apart_from : (ids : List ℕ) (x : ℕ) → list_any (λ other. other == x) ids ≡ false → AllByRecursion (λ y. eqb x y ≡ false) ids
 apart_from [] x none = tt
-apart_from (id ∷ ids) x none = elim (cases_Bool (eqb id x)) [
-  | inl same ↦ absurd (let no : true ≡ false = ap (λ (b : Bool). b || list_any (λ other. other == x) ids) (sym same) ∙ none in cc)
-  | inr other ↦ (turned x id ∙ other, apart_from ids x (ap (λ (b : Bool). b || list_any (λ other. other == x) ids) (sym other) ∙ none))
-]
+apart_from (id ∷ ids) x none = let parts = or_parts (eqb id x) (list_any (λ other. other == x) ids) none in (turned x id ∙ parts.0, apart_from ids x parts.1)
 
 distinct_ids : (ids : List ℕ) → is_distinct ids ≡ true → IsDistinct eqb ids
 unfolding IsDistinct
@@ -78,9 +60,9 @@ below_each : (n : ℕ) (ids : List ℕ) → all_below n ids ≡ true → (x : �
 below_each n [] all x e = absurd (let no : false ≡ true = e in cc)
 below_each n (id ∷ ids) all x e =
     let parts = and_parts (nat_lt id n) (all_below n ids) all in
-    elim (cases_Bool (eqb x id)) [
-      | inl same ↦ let is : x ≡ id = eqb-true x id same in let h = ltb-true id n parts.0 in omega arith
-      | inr other ↦ below_each n ids parts.1 x (ap (λ (b : Bool). b || list_any (eqb x) ids) (sym other) ∙ e)
+    elim (or_cases (eqb x id) (list_any (eqb x) ids) e) [
+      | inl same ↦ omega (arith, eqb-true x id same, ltb-true id n parts.0)
+      | inr rest ↦ below_each n ids parts.1 x rest
     ]
 
 -- distinct ids below n are at most n
@@ -139,10 +121,7 @@ sound_logs s slot b sound =
 
 -- with every region named all are in use
 pub all_in_use : (s : Shape) (slot : ℕ) (b : Body) → is_well_formed s slot b ≡ true → AreAllNamed s.logs b → length b.frozen + 1 ≡ s.logs
-all_in_use s slot b sound named =
-    let many = all_among s.logs (b.active ∷ b.frozen) named in
-    let few = (sound_logs s slot b sound).fewer in
-    omega (arith, many, few)
+all_in_use s slot b sound named = omega (arith, all_among s.logs (b.active ∷ b.frozen) named, (sound_logs s slot b sound).fewer)
 
 -- with a free region there is one to spare
 pub one_to_spare : (s : Shape) (slot region : ℕ) (b : Body) → is_well_formed s slot b ≡ true → IsLowestFree s.logs b region → length b.frozen + 1 < s.logs
@@ -152,8 +131,7 @@ one_to_spare s slot region b sound lowest =
     let free_test : nat_lt region s.logs ≡ true = lt-ltb region s.logs lowest.below in
     let distinct : is_distinct ids ≡ true = and_from _ _ (ap not lowest.free) (and_from _ _ (ap not parts.apart) parts.distinct) in
     let below : all_below s.logs ids ≡ true = and_from _ _ free_test (and_from _ _ parts.active parts.frozen) in
-    let most = at_most s.logs ids distinct below in
-    omega (arith, most)
+    omega (arith, at_most s.logs ids distinct below)
 
 -- the next body is well formed
 pub next_sound : (s : Shape) (slot region : ℕ) (b : Body) → is_well_formed s slot b ≡ true → IsLowestFree s.logs b region → b.generation < 2 ^ 63 - 1
@@ -161,18 +139,13 @@ pub next_sound : (s : Shape) (slot region : ℕ) (b : Body) → is_well_formed s
 next_sound s slot region b sound lowest unspent =
     let tests = tests_of s slot b sound in
     let parts = sound_logs s slot b sound in
-    let spare = one_to_spare s slot region b sound lowest in
-    let fewer : nat_lt (length (b.active ∷ b.frozen)) s.logs ≡ true = lt-ltb (length (b.active ∷ b.frozen)) s.logs (omega (arith, spare)) in
+    let fewer : nat_lt (length (b.active ∷ b.frozen)) s.logs ≡ true = lt-ltb (length (b.active ∷ b.frozen)) s.logs (omega (arith, one_to_spare s slot region b sound lowest)) in
     let below : nat_lt region s.logs ≡ true = lt-ltb region s.logs lowest.below in
     let frozen : all_below s.logs (b.active ∷ b.frozen) ≡ true = and_from _ _ parts.active parts.frozen in
     let apart : not (list_any (λ id. id == region) (b.active ∷ b.frozen)) ≡ true = ap not lowest.free in
     let distinct : is_distinct (b.active ∷ b.frozen) ≡ true = and_from _ _ (ap not parts.apart) parts.distinct in
     let logs : has_sound_logs s.logs (next_body b region) ≡ true = and_from _ _ (and_from _ _ (and_from _ _ (and_from _ _ fewer below) frozen) apart) distinct in
     next_well_formed s b (next_body b region) refl unspent logs tests.hashes tests.sorted tests.count
-
--- there are few frozen logs
-pub few_ids : (s : Shape) (slot : ℕ) (b : Body) → is_well_formed s slot b ≡ true → s.logs ≤ 8 → length b.frozen < 8
-few_ids s slot b sound most = let fewer = (sound_logs s slot b sound).fewer in omega (arith, fewer, most)
 
 -- ---- hash regions, and the body that names one more
 
@@ -195,10 +168,7 @@ sound_hashes s slot b sound =
 
 -- with every region named there are as many hash stores as regions
 pub all_hashes_named : (s : Shape) (slot : ℕ) (b : Body) → is_well_formed s slot b ≡ true → AreAllHashesNamed s.hashes b → length b.hashed ≡ s.hashes
-all_hashes_named s slot b sound named =
-    let many = all_among s.hashes b.hashed named in
-    let few = (sound_hashes s slot b sound).most in
-    omega (arith, many, few)
+all_hashes_named s slot b sound named = omega (arith, all_among _ _ named, (sound_hashes s slot b sound).most)
 
 -- with a free region there are fewer
 pub fewer_hashes : (s : Shape) (slot region : ℕ) (b : Body) → is_well_formed s slot b ≡ true → region < s.hashes → names_hash b region ≡ false → length b.hashed < s.hashes
@@ -206,8 +176,7 @@ fewer_hashes s slot region b sound inside free =
     let parts = sound_hashes s slot b sound in
     let distinct : is_distinct (region ∷ b.hashed) ≡ true = and_from _ _ (ap not free) parts.distinct in
     let below : all_below s.hashes (region ∷ b.hashed) ≡ true = and_from _ _ (lt-ltb region s.hashes inside) parts.below in
-    let most = at_most s.hashes (region ∷ b.hashed) distinct below in
-    omega (arith, most)
+    omega (arith, at_most s.hashes (region ∷ b.hashed) distinct below)
 
 -- ---- fewer frozen logs
 
@@ -216,12 +185,8 @@ pub none_of_first : (ids : List ℕ) (n x : ℕ) → list_any (λ other. other =
 none_of_first [] zero x none = refl
 none_of_first [] (suc n) x none = refl
 none_of_first (id ∷ ids) zero x none = refl
-none_of_first (id ∷ ids) (suc n) x none = elim (cases_Bool (eqb id x)) [
-  | inl same ↦ absurd (let no : true ≡ false = ap (λ (b : Bool). b || list_any (λ other. other == x) ids) (sym same) ∙ none in cc)
-  | inr other ↦
-      ap (λ (b : Bool). b || list_any (λ other. other == x) (take n ids)) other
-      ∙ none_of_first ids n x (ap (λ (b : Bool). b || list_any (λ other. other == x) ids) (sym other) ∙ none)
-]
+none_of_first (id ∷ ids) (suc n) x none =
+    let parts = or_parts (eqb id x) (list_any (λ other. other == x) ids) none in or_from _ _ parts.0 (none_of_first ids n x parts.1)
 
 pub distinct_first : (ids : List ℕ) (n : ℕ) → is_distinct ids ≡ true → is_distinct (take n ids) ≡ true
 distinct_first [] zero e = refl
@@ -246,17 +211,15 @@ sound_logs_first logs b n generation hashed sound =
     let l2 = and_parts _ _ l1.0 in
     let l3 = and_parts _ _ l2.0 in
     let l4 = and_parts _ _ l3.0 in
-    let was = ltb-true (length b.frozen) logs l4.0 in
-    let fewer : nat_lt (length (take n b.frozen)) logs ≡ true = lt-ltb _ _ (omega (arith, was, length-take n b.frozen)) in
-    and_from _ _ (and_from _ _ (and_from _ _ (and_from _ _ fewer l4.1) (below_first logs b.frozen n l3.1)) (ap not (none_of_first b.frozen n b.active (not-true _ l2.1))))
-    (distinct_first b.frozen n l1.1)
+    let fewer : nat_lt (length (take n b.frozen)) logs ≡ true = lt-ltb _ _ (omega (arith, ltb-true (length b.frozen) logs l4.0, length-take n b.frozen)) in
+    and_from _ _ (and_from _ _ (and_from _ _ (and_from _ _ fewer l4.1) (below_first logs _ n l3.1)) (ap not (none_of_first _ n _ (not-true _ l2.1))))
+    (distinct_first _ n l1.1)
 
 -- the body that names a free region in place of the oldest log is well formed
 pub converted_sound_body : (s : Shape) (slot region : ℕ) (b : Body) → is_well_formed s slot b ≡ true → region < s.hashes → names_hash b region ≡ false → b.generation < 2 ^ 63 - 1
     → is_well_formed s ((b.generation + 1) % 2) (converted_body b region) ≡ true
 converted_sound_body s slot region b sound inside free unspent =
-    let fewer : length b.hashed < s.hashes = fewer_hashes s slot region b sound inside free in
-    let most : nat_le (length (region ∷ b.hashed)) s.hashes ≡ true = grind (arith, nat_tests, fewer) in
+    let most : nat_le (length (region ∷ b.hashed)) s.hashes ≡ true = grind (arith, nat_tests, fewer_hashes s slot region b sound inside free) in
     let parts = sound_hashes s slot b sound in
     let distinct : is_distinct (region ∷ b.hashed) ≡ true = and_from _ _ (ap not free) parts.distinct in
     let below : all_below s.hashes (region ∷ b.hashed) ≡ true = and_from _ _ (lt-ltb region s.hashes inside) parts.below in
@@ -281,8 +244,7 @@ no_hash_free s slot whole sound named = hash_count s whole ∙ all_hashes_named 
 pub hash_free : (s : EngineState) (slot region : ℕ) → AreWhole s → is_well_formed s.manifest.shape slot s.manifest.current ≡ true
     → region < s.manifest.shape.hashes → names_hash s.manifest.current region ≡ false → length s.hashes < s.manifest.shape.hashes
 hash_free s slot region whole sound inside free =
-    let fewer = fewer_hashes s.manifest.shape slot region s.manifest.current sound inside free in
-    omega (arith, fewer, hash_count s whole)
+    omega (arith, fewer_hashes s.manifest.shape slot region s.manifest.current sound inside free, hash_count s whole)
 
 -- the record that ends a conversion may follow the current one
 pub may_end : (s : EngineState) (body : Body) (digests : Digests) → is_well_formed s.manifest.shape (current_slot s.manifest) s.manifest.current ≡ true
@@ -292,8 +254,7 @@ may_end s body digests sound whole ends =
     record {
       generation = ap (λ (b : Body). b.generation) ends.is;
       sound =
-          ap (is_well_formed s.manifest.shape (spare_slot s.manifest)) ends.is
-          ∙ converted_sound_body s.manifest.shape (current_slot s.manifest) ends.conversion.region s.manifest.current sound way.there way.free ends.unspent;
+          cc (ends.is, converted_sound_body s.manifest.shape (current_slot s.manifest) ends.conversion.region s.manifest.current sound way.there way.free ends.unspent);
     }
 
 -- it has room for one hash store more
@@ -328,15 +289,14 @@ may_end_merge s body digests store sound whole ends =
       sound =
           ap (is_well_formed s.manifest.shape (spare_slot s.manifest)) ends.is
           ∙ merged_sound_body s.manifest.shape (current_slot s.manifest) ends.merge.stores ends.merge.region ends.merge.written s.manifest.current sound way.held.there
-          (subst (λ (sh : Shape). ends.merge.written ≤ sh.sorted_capacity) way.has_shape way.held.room) ends.unspent;
+          (rw way.has_shape at way.held.room) ends.unspent;
     }
 
 -- there are no more hash stores than a manifest has room for
 pub few_hashes : (s : EngineState) (limit : ℕ) → AreWhole s → is_well_formed s.manifest.shape (current_slot s.manifest) s.manifest.current ≡ true
     → limit ≡ s.manifest.shape.hashes → limit ≤ 16 → length s.hashes ≤ 16
 few_hashes s limit whole sound limit_is most =
-    let fewer = (sound_hashes s.manifest.shape (current_slot s.manifest) s.manifest.current sound).most in
-    omega (arith, fewer, limit_is, most, hash_count s whole)
+    omega (arith, (sound_hashes s.manifest.shape (current_slot s.manifest) s.manifest.current sound).most, limit_is, most, hash_count s whole)
 
 -- ---- the stores in memory, and the log that comes next
 
@@ -344,7 +304,7 @@ few_hashes s limit whole sound limit_is most =
 pub may_follow : (s : EngineState) (next : NextLog) → is_well_formed s.manifest.shape (current_slot s.manifest) s.manifest.current ≡ true → IsNextLog s next → IsNext s.manifest next.body
 may_follow s next sound is = record {
   generation = ap (λ (b : Body). b.generation) is.body;
-  sound = ap (is_well_formed s.manifest.shape (spare_slot s.manifest)) is.body ∙ next_sound s.manifest.shape (current_slot s.manifest) is.region s.manifest.current sound is.lowest is.unspent;
+  sound = cc (is.body, next_sound s.manifest.shape (current_slot s.manifest) is.region s.manifest.current sound is.lowest is.unspent);
 }
 
 -- there are as many frozen logs as the body names
@@ -375,16 +335,16 @@ pub is_next : (s : EngineState) (slot logs region : ℕ) (next : NextLog) → lo
     → s.manifest.current.generation ≢ 2 ^ 63 - 1 → next.body ≡ next_body s.manifest.current region → next.store ≡ empty_store s.manifest.shape region → IsNextLog s next
 is_next s slot logs region next is whole sound lowest unspent body store = record {
   region = region;
-  lowest = subst (λ (n : ℕ). IsLowestFree n s.manifest.current region) is lowest;
+  lowest = rw is at lowest;
   spare = has_room s slot logs region is whole sound lowest;
-  unspent = let most = (sound_logs s.manifest.shape slot s.manifest.current sound).generation in omega (arith, most, unspent);
+  unspent = omega (arith, (sound_logs s.manifest.shape slot s.manifest.current sound).generation, unspent);
   body = body;
   store = store;
 }
 
 -- the next body has room for its frozen logs
 pub few_frozen : (s : Shape) (slot : ℕ) (b : Body) → is_well_formed s slot b ≡ true → s.logs ≤ 8 → length b.frozen < 16
-few_frozen s slot b sound most = let fewer = (sound_logs s slot b sound).fewer in omega (arith, fewer, most)
+few_frozen s slot b sound most = omega (arith, (sound_logs s slot b sound).fewer, most)
 
 pub before_last : (s : Shape) (slot : ℕ) (b : Body) → is_well_formed s slot b ≡ true → b.generation ≢ 2 ^ 63 - 1 → b.generation < 2 ^ 63 - 1
-before_last s slot b sound unspent = let most = (sound_logs s slot b sound).generation in omega (arith, most, unspent)
+before_last s slot b sound unspent = omega (arith, (sound_logs s slot b sound).generation, unspent)

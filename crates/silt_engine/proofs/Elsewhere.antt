@@ -1,14 +1,11 @@
 -- What a change in one place of the disk leaves of the logs, the hash stores, the entries, the conversion and the merge in other places.
-use Rattle.silt_engine.proofs.Common.{◌≡◌, ◌≢◌, ◌≤◌, ◌<◌, ℕ, ◌+◌, ◌*◌, ◌-◌, ◌%◌, ◌==◌, true, false, IsTrue, List, suc, length, map, get_or, Option, Some, None}
-use Rattle.silt_engine.proofs.Common.{inl, inr, ap, sym, ◌∙◌, subst, arith, All, Contains, IfSome, list_any, get_or-map, length-map, All-drop, list_any_at}
-use Rattle.silt_engine.proofs.Common.{nat_tests, ChangesWithin, Content, LiesOutside, size, Shape, device_size, entries_len, commits_at, hash_at, hash_size}
-use Rattle.silt_engine.proofs.Common.{log_len, log_size, row_len, slot_at, slots_len, sorted_at, regions_apart, up_least, first_rows, row_at, has_known_kind}
-use Rattle.silt_engine.proofs.Common.{StoredRow, keys_of, put_count, InBounds, LogState, all_rows, log_inside, log_rows_elsewhere, IsIndexed, LogStoreState}
-use Rattle.silt_engine.proofs.Common.{index_of_keys, ConversionState, HasWritten, HashState, IsHashStore, pieces_apart, whole_law, is_well_formed, Body}
-use Rattle.silt_engine.proofs.Common.{HasMerged, MergeState, oldest_stores, SortedState, digest_elsewhere, indexed_elsewhere, IsHashOf, IsMerging, IsUnderWay}
-use Rattle.silt_engine.proofs.Common.{EngineState, hash_region_of, oldest_log, region_of, HasGathered, IsDigested, IsFrozen, IsLocated, Stands, shown_stores}
-use Rattle.silt_engine.proofs.Common.{entries_behind_log, list_all, length-map-range_with_len, next_region, hash_elsewhere, IsWhole, names_regions, apart_of}
-use Rattle.silt_engine.proofs.Common.{merged_elsewhere}
+use Rattle.silt_engine.proofs.Common.{◌≡◌, ◌≢◌, ◌≤◌, ◌<◌, ℕ, ◌+◌, ◌*◌, ◌-◌, ◌%◌, ◌==◌, true, false, IsTrue, List, suc, length, map, get_or, Option, Some, None, inl, inr, ap, sym, ◌∙◌, subst}
+use Rattle.silt_engine.proofs.Common.{arith, All, Contains, IfSome, list_any, get_or-map, length-map, All-drop, list_any_at, ChangesWithin, Content, LiesOutside, size, Shape, device_size}
+use Rattle.silt_engine.proofs.Common.{entries_len, commits_at, hash_at, log_len, log_size, row_len, slot_at, slots_len, sorted_at, regions_apart, up_least, first_rows, row_at, InBounds}
+use Rattle.silt_engine.proofs.Common.{LogState, all_rows, log_inside, log_rows_elsewhere, IsIndexed, LogStoreState, ConversionState, HasWritten, HashState, IsHashStore, pieces_apart}
+use Rattle.silt_engine.proofs.Common.{whole_law, is_well_formed, Body, HasMerged, MergeState, oldest_stores, SortedState, digest_elsewhere, indexed_elsewhere, IsHashOf, IsMerging}
+use Rattle.silt_engine.proofs.Common.{IsUnderWay, EngineState, hash_region_of, oldest_log, region_of, HasGathered, IsDigested, IsFrozen, IsLocated, Stands, shown_stores, entries_behind_log}
+use Rattle.silt_engine.proofs.Common.{length-map-range_with_len, next_region, hash_elsewhere, IsWhole, names_regions, apart_of, merged_elsewhere}
 use Rattle.silt_log.specs.Rows.{log_rows, open_count, rows_from}
 use Rattle.silt_log.proofs.Counts.{count_most}
 use Rattle.silt_conversion.proofs.Elsewhere.{written_elsewhere}
@@ -20,9 +17,8 @@ use Rattle.silt_engine.proofs.Named.{named_body, named_shape}
 -- another log region lies outside
 pub outside_other : (shape : Shape) (region other : ℕ) → region ≢ other → LiesOutside (commits_at shape region) (log_len shape) (commits_at shape other) (log_size shape)
 outside_other shape region other differ =
-    let bodies = up_least (shape.log_capacity * row_len shape) in
     elim (pieces_apart 12288 region other (log_size shape) differ) [
-      | inl before ↦ inr (omega (arith, before, bodies))
+      | inl before ↦ inr (omega (arith, before, up_least (shape.log_capacity * row_len shape)))
       | inr behind ↦ inl behind
     ]
 
@@ -35,7 +31,7 @@ log_ends : (size logs region rest : ℕ) → region < logs → 12288 + region * 
 log_ends size logs region rest below = omega (arith, next_region region logs size below)
 
 pub slots_behind_log : (shape : Shape) (region hash : ℕ) → region < shape.logs → LiesOutside (hash_at shape hash) (slots_len shape) (commits_at shape region) (log_size shape)
-slots_behind_log shape region hash below = inl (log_ends (log_size shape) shape.logs region (hash * hash_size shape) below)
+slots_behind_log shape region hash below = inl (log_ends _ _ region _ below)
 
 -- and so does a manifest slot
 pub slots_behind_manifest : (shape : Shape) (hash slot : ℕ) → slot < 2 → LiesOutside (hash_at shape hash) (slots_len shape) (slot_at slot) 4096
@@ -60,11 +56,7 @@ scanned_all content log counted = ap (λ (n : ℕ). first_rows log.shape log.reg
 -- the table of a log's keys and the number of its puts depend on its rows alone
 pub indexed_same : (old new : Content) (store : LogStoreState) → (IsTrue new.honest → IsTrue old.honest)
     → (IsTrue new.honest → all_rows new store.log ≡ all_rows old store.log) → IsIndexed old store → IsIndexed new store
-indexed_same old new store back same indexed = record {
-  known = λ h. ap (list_all has_known_kind) (same h) ∙ indexed.known (back h);
-  indexed = λ h. ap (λ (rows : List StoredRow). index_of_keys store.log.shape.buckets (keys_of rows)) (same h) ∙ indexed.indexed (back h);
-  counted = λ h. indexed.counted (back h) ∙ ap put_count (sym (same h));
-}
+indexed_same old new store back same indexed = search (arith, back)
 
 -- a change outside a frozen log's region leaves the log
 pub frozen_elsewhere : (old new : Content) (store : LogStoreState) (at count : ℕ) → size old ≡ device_size store.log.shape → ChangesWithin at count old new
@@ -87,10 +79,7 @@ frozen_elsewhere old new store at count sized changes lies frozen =
 
 -- a number that no element of a list is
 pub not_among : (ids : List ℕ) (x id : ℕ) → list_any (λ other. other == x) ids ≡ false → Contains ids id → id ≢ x
-not_among ids x id none (k, inside, here) e =
-    let found : list_any (λ other. other == x) ids ≡ true = list_any_at (λ other. other == x) ids k id inside (grind (arith, nat_tests, here, e)) in
-    let no : false ≡ true = sym none ∙ found in
-    absurd (cc)
+not_among ids x id none (k, inside, here) e = search (arith, list_any_at)
 
 -- the body names the region of each frozen log
 pub frozen_named : (s : EngineState) → map region_of s.frozen ≡ s.manifest.current.frozen → (k : ℕ) (d : LogStoreState)
@@ -98,18 +87,16 @@ pub frozen_named : (s : EngineState) → map region_of s.frozen ≡ s.manifest.c
 frozen_named s are k d inside = (
   k,
   omega (arith, inside, length-map s.frozen region_of, ap length are),
-  ap (λ (ids : List ℕ). get_or ids k (region_of (get_or s.frozen k d))) (sym are) ∙ get_or-map region_of s.frozen k d (region_of (get_or s.frozen k d)) inside,
+  cc (get_or-map region_of s.frozen k d (region_of (get_or s.frozen k d)) inside),
 )
 
 module _ (content : Content) (s : EngineState) (stands : Stands content s) (honest : IsTrue content.honest) where
   -- the current record is well formed
   pub current_sound : is_well_formed s.manifest.shape (s.manifest.current.generation % 2) s.manifest.current ≡ true
   current_sound =
-      let whole : IsWhole (shown_stores content s) content.shown = whole_law content.shown (shown_stores content s) (shown_named content s stands honest) in
+      let whole : IsWhole (shown_stores content s) content.shown = whole_law content.shown (shown_stores content s) (shown_named _ s stands honest) in
       let here : is_well_formed (shown_stores content s).shape ((shown_stores content s).body.generation % 2) (shown_stores content s).body ≡ true = whole.sound in
-      ap (λ (sh : Shape). is_well_formed sh (s.manifest.current.generation % 2) s.manifest.current) (sym (named_shape s.manifest.shape s.manifest.current content.shown))
-      ∙ ap (λ (b : Body). is_well_formed (shown_stores content s).shape (b.generation % 2) b) (sym (named_body s.manifest.shape s.manifest.current content.shown))
-      ∙ here
+      cc (named_shape s.manifest.shape s.manifest.current content.shown, named_body s.manifest.shape s.manifest.current content.shown)
 
   -- each region that it names is there
   pub named_below : (region : ℕ) → Contains s.manifest.current.frozen region → region < s.manifest.shape.logs
@@ -132,7 +119,7 @@ pub hash_named : (s : EngineState) → map hash_region_of s.hashes ≡ s.manifes
 hash_named s are k d inside = (
   k,
   omega (arith, inside, length-map s.hashes hash_region_of, ap length are),
-  ap (λ (ids : List ℕ). get_or ids k (hash_region_of (get_or s.hashes k d))) (sym are) ∙ get_or-map hash_region_of s.hashes k d (hash_region_of (get_or s.hashes k d)) inside,
+  cc (get_or-map hash_region_of s.hashes k d (hash_region_of (get_or s.hashes k d)) inside),
 )
 
 -- ---- the conversion
@@ -153,15 +140,15 @@ log_written_elsewhere old new store conversion at count fits there most frozen c
     let plain : LogStoreState = record store { log = record store.log { settled = store.log.used; stale = false } } in
     let plainly : HasWritten old plain conversion = record { shape = is.shape; due = is.due; tagged = is.tagged; charged = is.charged; hashed = is.hashed } in
     let inside : IsTrue old.honest → commits_at store.log.shape store.log.region + store.log.shape.log_capacity ≤ size old =
-    λ h. let ends = log_inside store.log.shape store.log.region (lies h).0 in let commits = (regions_apart store.log.shape).commits store.log.region in omega (arith, ends, commits, fits) in
+    λ h. omega (arith, log_inside store.log.shape store.log.region (lies h).0, (regions_apart store.log.shape).commits store.log.region, fits) in
     let bounds : IsTrue old.honest → InBounds plain.log = λ h. record {
       region = (lies h).0;
       order = omega arith;
-      room = let few = open_most store.log.shape store.log.region old.shown (inside h) in omega (arith, few, frozen.rows h);
+      room = omega (arith, open_most store.log.shape store.log.region old.shown (inside h), frozen.rows h);
       gap = λ stale. absurd (let no : false ≡ true = stale in cc);
     } in
     let stays : IsTrue old.honest → HasWritten new plain conversion =
-    λ h. written_elsewhere plain conversion old new at count (bounds h) there most (subst (λ (sh : Shape). device_size sh ≤ size old) (sym is.shape) fits) (lies h).1 (lies h).2 changes plainly in
+    λ h. written_elsewhere plain conversion old new at count (bounds h) there most (rw (← is.shape) at fits) (lies h).1 (lies h).2 changes plainly in
     record {
       shape = is.shape;
       due = λ h. (stays (subst IsTrue changes.honest h)).due h;
@@ -200,16 +187,13 @@ IsOutsideMerge s at count = IfSome s.merging (IsPastEntries s.manifest.shape at 
 -- the region of a log that is there lies before the slots of a conversion
 pub region_before_conversion : (s : EngineState) (region : ℕ) → region < s.manifest.shape.logs
     → IsOutsideConversion s (commits_at s.manifest.shape region) (log_size s.manifest.shape)
-region_before_conversion s region below =
-    on_some (IsPastSlots s.manifest.shape (commits_at s.manifest.shape region) (log_size s.manifest.shape)) s.converting
-    (λ conversion. slots_behind_log s.manifest.shape region conversion.region below)
+region_before_conversion s region below = search (arith, on_some, slots_behind_log)
 
 -- and before the entries of a merge
 pub region_before_merge : (s : EngineState) (region : ℕ) → region < s.manifest.shape.logs
     → IsOutsideMerge s (commits_at s.manifest.shape region) (log_size s.manifest.shape)
 region_before_merge s region below =
-    on_some (IsPastEntries s.manifest.shape (commits_at s.manifest.shape region) (log_size s.manifest.shape)) s.merging
-    (λ merge. entries_behind_log s.manifest.shape region merge.region below)
+    on_some (IsPastEntries s.manifest.shape (commits_at s.manifest.shape region) (log_size s.manifest.shape)) _ (λ merge. entries_behind_log _ region _ below)
 
 -- a change in such a place leaves what is not in the active log
 module _ (old new : Content) (s : EngineState) (at count : ℕ) (stands : Stands old s) (changes : ChangesWithin at count old new)
@@ -223,25 +207,19 @@ module _ (old new : Content) (s : EngineState) (at count : ℕ) (stands : Stands
       let store : LogStoreState = get_or s.frozen k d in
       let is_shape : store.log.shape ≡ s.manifest.shape = (stands.whole.settled k d inside).has_shape in
       let named = frozen_named s stands.whole.frozen_regions k d inside in
-      frozen_elsewhere old new store at count (stands.has_size ∙ ap device_size (sym is_shape)) changes
-      (λ h. (
-        subst (λ (sh : Shape). store.log.region < sh.logs) (sym is_shape) (named_below old s stands h store.log.region named),
-        subst (λ (sh : Shape). LiesOutside (commits_at sh store.log.region) (log_len sh) at count) (sym is_shape)
-            ((apart h).frozen store.log.region named),
-      ))
-      (stands.frozen k d inside)
+      frozen_elsewhere old new store at count (stands.has_size ∙ ap device_size (sym is_shape)) changes (λ h. (
+        rw (← is_shape) at (named_below old s stands h store.log.region named),
+        rw (← is_shape) at ((apart h).frozen store.log.region named),
+      )) (stands.frozen k d inside)
 
   -- the hash stores
   pub all_hashed_elsewhere : All (IsHashStore new) s.hashes
   all_hashed_elsewhere k d inside =
       let store : HashState = get_or s.hashes k d in
       let is : IsHashOf s.manifest.shape store = stands.whole.hashed k d inside in
-      let fits : device_size store.shape ≤ size old =
-      subst (λ (sh : Shape). device_size sh ≤ size old) (sym is.has_shape) (omega (arith, stands.has_size)) in
-      let stays : IsTrue old.honest → IsHashStore new store =
-      λ h. hash_elsewhere store old new at count is.held fits
-      (subst (λ (sh : Shape). LiesOutside (hash_at sh store.region) (slots_len sh) at count) (sym is.has_shape)
-      ((apart h).hashed store.region (hash_named s stands.whole.hash_regions k d inside))) changes (stands.hashed k d inside) in
+      let fits : device_size store.shape ≤ size old = rw is.has_shape (omega (arith, stands.has_size)) in
+      let stays : IsTrue old.honest → IsHashStore new store = λ h. hash_elsewhere store old new at count is.held fits (rw (← is.has_shape) at ((apart h).hashed
+      store.region (hash_named s stands.whole.hash_regions k d inside))) changes (stands.hashed k d inside) in
       record {
         sound = λ h. (stays (back h)).sound h;
         tagged = λ h. (stays (back h)).tagged h;
@@ -258,23 +236,17 @@ module _ (old new : Content) (s : EngineState) (at count : ℕ) (stands : Stands
       let inside : length s.frozen - 1 < length s.frozen = omega (arith, way.some_frozen) in
       let log : LogStoreState = oldest_log s in
       let is_shape : log.log.shape ≡ s.manifest.shape = (stands.whole.settled (length s.frozen - 1) s.active inside).has_shape in
-      let named = frozen_named s stands.whole.frozen_regions (length s.frozen - 1) s.active inside in
-      log_written_elsewhere old new log conversion at count
-      (subst (λ (sh : Shape). device_size sh ≤ size old) (sym is_shape) (omega (arith, stands.has_size)))
-      (subst (λ (sh : Shape). conversion.region < sh.hashes) (sym way.has_shape) way.there)
-      (subst (λ (sh : Shape). conversion.next ≤ 4 * sh.buckets) (sym way.has_shape) way.most)
-      (stands.frozen (length s.frozen - 1) s.active inside) changes
-      (λ h. (
-        subst (λ (sh : Shape). log.log.region < sh.logs) (sym is_shape) (named_below old s stands h log.log.region named),
-        subst (λ (sh : Shape). LiesOutside (commits_at sh log.log.region) (log_len sh) at count) (sym is_shape)
-            ((apart h).frozen log.log.region named),
-        subst (λ (sh : Shape). IsPastSlots sh at count conversion) (sym way.has_shape) (outside h),
-      ))
-      is
+      let named = frozen_named s stands.whole.frozen_regions _ _ inside in
+      log_written_elsewhere old new log _ at count (rw is_shape (omega (arith, stands.has_size))) (rw (← way.has_shape) at way.there) (rw (← way.has_shape) at
+      way.most) (stands.frozen (length s.frozen - 1) s.active inside) changes (λ h. (
+        rw (← is_shape) at (named_below old s stands h log.log.region named),
+        rw (← is_shape) at ((apart h).frozen log.log.region named),
+        rw (← way.has_shape) at (outside h),
+      )) is
 
   -- the entries, where the manifest names them
   sorted_inside : device_size s.sorted.shape ≤ size old
-  sorted_inside = subst (λ (t : SortedState). device_size t.shape ≤ size old) (sym stands.whole.sorted) (omega (arith, stands.has_size))
+  sorted_inside = rw stands.whole.sorted (omega (arith, stands.has_size))
 
   sorted_outside : IsTrue old.honest → LiesOutside (sorted_at s.sorted.shape s.sorted.region) (entries_len s.sorted.shape) at count
   sorted_outside h =
@@ -282,12 +254,10 @@ module _ (old new : Content) (s : EngineState) (at count : ℕ) (stands : Stands
 
   -- their index and their digest
   pub located_elsewhere : IsLocated new s
-  located_elsewhere h =
-      indexed_elsewhere s.sorted s.index old new at count stands.whole.held sorted_inside (sorted_outside (back h)) changes stands.located h
+  located_elsewhere h = indexed_elsewhere s.sorted s.index old new at count stands.whole.held sorted_inside (sorted_outside (back h)) changes stands.located h
 
   pub digested_elsewhere : IsDigested new s
-  digested_elsewhere h =
-      digest_elsewhere s.sorted s.digest old new at count stands.whole.held sorted_inside (sorted_outside (back h)) changes stands.digested h
+  digested_elsewhere h = digest_elsewhere s.sorted s.digest old new at count stands.whole.held sorted_inside (sorted_outside (back h)) changes stands.digested h
 
   -- what a merge has gathered and written, if its entries are apart too
   pub merged_all_elsewhere : (o : Option MergeState) → (IsTrue old.honest → IfSome o (IsPastEntries s.manifest.shape at count))
@@ -300,11 +270,9 @@ module _ (old new : Content) (s : EngineState) (at count : ℕ) (stands : Stands
       let slots : IsTrue old.honest → All (λ (store : HashState). LiesOutside (hash_at s.sorted.shape store.region) (slots_len s.sorted.shape) at count) taken =
       λ h. All-drop (λ (store : HashState). LiesOutside (hash_at s.sorted.shape store.region) (slots_len s.sorted.shape) at count)
       (length s.hashes - merge.stores) s.hashes
-      (λ k d inside. subst (λ (sh : Shape). LiesOutside (hash_at sh (get_or s.hashes k d).region) (slots_len sh) at count) (sym is_shape)
-      ((apart h).hashed (get_or s.hashes k d).region (hash_named s stands.whole.hash_regions k d inside))) in
-      let stays : IsTrue old.honest → HasMerged new taken s.sorted merge =
-      λ h. merged_elsewhere taken s.sorted merge old new at count stands.whole.held way.held sorted_inside
-      (subst (λ (sh : Shape). IsPastEntries sh at count merge) (sym is_shape) (outside h)) (sorted_outside h) (slots h) changes is.0 in (
+      (λ k d inside. rw (← is_shape) at ((apart h).hashed (get_or s.hashes k d).region (hash_named s stands.whole.hash_regions k d inside))) in
+      let stays : IsTrue old.honest → HasMerged new taken s.sorted merge = λ h. merged_elsewhere taken s.sorted merge old new at count stands.whole.held
+      way.held sorted_inside (rw (← is_shape) at (outside h)) (sorted_outside h) (slots h) changes is.0 in (
         record {
           shape = is.0.shape;
           counted = is.0.counted;

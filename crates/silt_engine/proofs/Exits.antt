@@ -1,7 +1,6 @@
 -- Clauses at exits.
-use Rattle.silt_engine.proofs.Common.{◌≡◌, Result, Ok, Err, sym, subst, EngineState, ◌+◌, ◌%◌, ◌^◌, ℕ, List, [], ◌++◌, refl, ap, ◌∙◌, CountsFault, Ghosts}
-use Rattle.silt_engine.proofs.Common.{Command, Stands, Advances, SameDisk, IfErr, MatchResult, OnOk, BreaksOff, Works, WorksBy}
-use Rattle.silt_engine.proofs.Common.{arith, size, ChangesWithin, Makes, MakesAtMost, WroteOr, made_both, most_made, most_none}
+use Rattle.silt_engine.proofs.Common.{◌≡◌, Result, Ok, Err, sym, subst, EngineState, ◌+◌, ◌%◌, ◌^◌, ℕ, List, [], ◌++◌, refl, ap, ◌∙◌, CountsFault, Ghosts, Command, Stands, Advances}
+use Rattle.silt_engine.proofs.Common.{SameDisk, IfErr, MatchResult, OnOk, BreaksOff, Works, WorksBy, arith, size, ChangesWithin, Makes, MakesAtMost, WroteOr, made_both, most_made, most_none}
 use Rattle.std.specs.Result.{IsErrAnd}
 use Rattle.silt_engine.specs.declared.engine.Engine.TheInside.{Inside}
 use Rattle.silt_engine.proofs.Chains.{advances_break, advances_remap, advances_trans, breaks_after, remaps_trans, same_trans, stays_still}
@@ -58,14 +57,7 @@ pub went : {D F T E : Type 0} {MadeOk : T → Type 0} {w s : ℕ} (facts : Ghost
     → SameDisk (facts.content old) (facts.content new) → Stands (facts.content old) before → facts.failures new ≡ facts.failures old
     → Advances adds (facts.content old) (facts.content new) before after → MatchResult result MadeOk (λ _. MakesAtMost facts.writes facts.syncs w s old new)
     → WorksBy facts MadeOk adds w s old new before after result
-went facts adds old new before after result same stands failures goes made = record {
-  same = same;
-  shape = goes.shape;
-  failures = on_ok result failures;
-  advances = on_ok result goes;
-  map = on_ok result (advances_remap adds (facts.content old) (facts.content new) before after same stands goes);
-  made = made;
-}
+went facts adds old new before after result same stands failures goes made = search (arith, on_ok, advances_remap)
 
 -- a call that went on, and stands for exactly so many calls
 pub went_so : {D F T E : Type 0} {w s : ℕ} (facts : Ghosts D F) (adds : List Command) (old new : D) (before after : EngineState) (result : Result T E)
@@ -78,7 +70,7 @@ went_so facts adds old new before after result same stands failures goes made =
 pub nothing_done : {D F T E : Type 0} {MadeOk : T → Type 0} {w calls : ℕ} (facts : Ghosts D F) (disk : D) (s : EngineState) (result : Result T E) → Stands (facts.content disk) s
     → MatchResult result MadeOk (λ _. MakesAtMost facts.writes facts.syncs w calls disk disk) → WorksBy facts MadeOk [] w calls disk disk s s result
 nothing_done facts disk s result stands made =
-    went facts [] disk disk s s result (record { size = refl; honest = refl }) stands refl (stays_still (facts.content disk) s stands) made
+    went facts [] disk disk s s result (record { size = refl; honest = refl }) stands refl (stays_still _ s stands) made
 
 -- a call whose error is handed on
 pub went_off : {D F T E : Type 0} {MadeOk : T → Type 0} {adds : List Command} {w s : ℕ} (facts : Ghosts D F) (old new : D) (before after : EngineState) (r : Result T E) (error : E)
@@ -90,7 +82,7 @@ went_off facts old new before after (Err e) error is same shape most = record { 
 -- no call, and an error
 pub refused : {D F T E : Type 0} {MadeOk : T → Type 0} {adds : List Command} {w calls : ℕ} (facts : Ghosts D F) (disk : D) (s : EngineState) (error : E)
     → WorksBy {T = T} facts MadeOk adds w calls disk disk s s (Err error)
-refused facts disk s error = went_off facts disk disk s s (Err error) error refl (record { size = refl; honest = refl }) refl most_none
+refused facts disk s error = went_off facts disk disk s s _ error refl (record { size = refl; honest = refl }) refl most_none
 
 -- two calls that went on
 pub both_went : {D F T E T2 E2 T3 E3 : Type 0} {w1 s1 w2 s2 w s : ℕ} (facts : Ghosts D F) (one two : List Command) (a b c : D) (first second third : EngineState)
@@ -108,11 +100,7 @@ both_went facts one two a b c first second third x y result m n writes syncs = r
 -- a write or a sync that failed, and the stores still stand
 pub broke_off : {D F : Type 0} (facts : Ghosts D F) (old new : D) (before after : EngineState) (fault : F) → SameDisk (facts.content old) (facts.content new) → Stands (facts.content old) before
     → CountsFault facts.failures facts.gave old new fault → Advances [] (facts.content old) (facts.content new) before after → BreaksOff facts old new before after fault
-broke_off facts old new before after fault same stands counted goes = record {
-  counted = counted;
-  breaks = advances_break (facts.content old) (facts.content new) before after same goes;
-  map = advances_remap [] (facts.content old) (facts.content new) before after same stands goes;
-}
+broke_off facts old new before after fault same stands counted goes = search (arith, advances_break, advances_remap)
 
 -- a write or a sync that failed behind a call that went on
 pub then_broke_off : {D F T E : Type 0} {MadeOk : T → Type 0} {w s : ℕ} (facts : Ghosts D F) (a b c : D) (first second third : EngineState) (x : T) (fault : F)

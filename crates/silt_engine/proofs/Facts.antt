@@ -1,17 +1,15 @@
 -- What the images of a disk on which the stores stand represent.
-use Rattle.silt_engine.proofs.Common.{◌≡◌, ◌≤◌, ◌<◌, ℕ, ◌+◌, ◌-◌, IsTrue, List, ◌++◌, length, map, replicate, Ok, inr, refl, ap, sym, ◌∙◌, subst, arith}
-use Rattle.silt_engine.proofs.Common.{Content, Left, LeavesOnly, Torn, size, Shape, device_size, commits_at, log_size, shown_left, torn_wider, regions_apart}
-use Rattle.silt_engine.proofs.Common.{up_least, log_rows, StoredRow, put_count, InBounds, LogState, all_rows, settled_rows, waiting_rows}
-use Rattle.silt_engine.proofs.Common.{all_are_settled_and_waiting, log_inside, Map, map_after, Stores, image_digests, image_stores, HasActive, IsSound}
-use Rattle.silt_engine.proofs.Common.{StandsFor, image_map, rows_of, with_log_rows, command_of, map_of_rows, rows_law, where_found, RecordIsCurrent}
-use Rattle.silt_engine.proofs.Common.{current_record, EngineState, Stands, current_map, full_image, shown_stores, length-replicate, torn_splice}
-use Rattle.silt_engine.proofs.Common.{torn_slice_before, other_regions, IsGoodWith}
+use Rattle.silt_engine.proofs.Common.{◌≡◌, ◌≤◌, ◌<◌, ℕ, ◌+◌, ◌-◌, IsTrue, List, ◌++◌, length, map, replicate, Ok, inr, refl, ap, sym, ◌∙◌, subst, arith, Content, Left, LeavesOnly, Torn}
+use Rattle.silt_engine.proofs.Common.{size, device_size, commits_at, log_size, shown_left, torn_wider, regions_apart, up_least, log_rows, StoredRow, put_count, InBounds, LogState, all_rows}
+use Rattle.silt_engine.proofs.Common.{settled_rows, waiting_rows, all_are_settled_and_waiting, log_inside, Map, map_after, Stores, image_digests, image_stores, HasActive, IsSound, StandsFor}
+use Rattle.silt_engine.proofs.Common.{image_map, rows_of, with_log_rows, command_of, map_of_rows, rows_law, where_found, RecordIsCurrent, EngineState, Stands, current_map, full_image}
+use Rattle.silt_engine.proofs.Common.{shown_stores, length-replicate, torn_splice, torn_slice_before, other_regions, IsGoodWith}
 use Rattle.silt_log.specs.State as log
 use Rattle.silt_image.specs.Meaning.{image_charge}
 use Rattle.silt_disk.specs.Header.{header_of, version_of}
 use Rattle.silt_standing.specs.Standing.{base_map}
-use Rattle.silt_engine.proofs.Named.{active_named, map_with_more, named_body, named_here, named_shape, region_torn, rows_with_more, said_with_rows}
-use Rattle.silt_engine.proofs.Named.{says_current, sound_settled, stands_for, stores_map, with_body, with_shape}
+use Rattle.silt_engine.proofs.Named.{active_named, map_with_more, named_body, named_here, named_shape, region_torn, rows_with_more, said_with_rows, says_current, sound_settled, stands_for}
+use Rattle.silt_engine.proofs.Named.{stores_map, with_body, with_shape}
 
 -- the map of the settled rows
 pub base_is : (content : Content) (s : EngineState) → base_map content s ≡ map_of_rows (rows_of (shown_stores content s))
@@ -28,9 +26,8 @@ pub full_torn : (content : Content) (l : LogState) → InBounds l → size conte
 full_torn content l bounds sized =
     let ones : List ℕ = replicate (l.used - l.settled) 167 in
     let long : length ones ≡ l.used - l.settled = length-replicate (l.used - l.settled) 167 in
-    let inside = log_inside l.shape l.region bounds.region in
-    let commits = (regions_apart l.shape).commits l.region in
-    let within : commits_at l.shape l.region + l.settled + length ones ≤ length content.shown = omega (arith, long, inside, commits, bounds.order, bounds.room, sized) in
+    let within : commits_at l.shape l.region + l.settled + length ones ≤ length content.shown =
+    omega (arith, long, log_inside l.shape l.region bounds.region, (regions_apart l.shape).commits l.region, bounds.order, bounds.room, sized) in
     torn_wider (commits_at l.shape l.region) (log_size l.shape) (omega arith) (omega (arith, long, bounds.order, bounds.room, up_least l.shape.log_capacity))
     (torn_splice (commits_at l.shape l.region + l.settled) ones content.shown within)
 
@@ -52,14 +49,11 @@ opened_map content l t is sized same_shape same_region honest named =
 module _ (content : Content) (s : EngineState) (stands : Stands content s) where
   -- the active log's region
   pub active_below : s.manifest.current.active < s.manifest.shape.logs
-  active_below =
-      let here : s.active.log.region < s.active.log.shape.logs = stands.active.bounds.region in
-      subst (λ (n : ℕ). n < s.manifest.shape.logs) stands.whole.active_region (subst (λ (sh : Shape). s.active.log.region < sh.logs) stands.whole.has_shape here)
+  active_below = search arith
 
   -- the active log's rows in an image
   pub active_rows : (image : List ℕ) → log_rows s.manifest.shape s.manifest.current.active image ≡ log_rows s.active.log.shape s.active.log.region image
-  active_rows image = ap (λ (sh : Shape). log_rows sh s.manifest.current.active image) (sym stands.whole.has_shape)
-      ∙ ap (λ (n : ℕ). log_rows s.active.log.shape n image) (sym stands.whole.active_region)
+  active_rows image = cc (stands.whole.has_shape, stands.whole.active_region)
 
   -- the active log's size
   pub active_size : size content ≡ device_size s.active.log.shape
@@ -71,17 +65,16 @@ module _ (content : Content) (s : EngineState) (stands : Stands content s) where
 
   -- what is shown has these stores
   pub shown_named : IsTrue content.honest → image_stores content.shown ≡ Ok (shown_stores content s)
-  shown_named honest = stands.named.each honest content.shown (shown_left content)
+  shown_named honest = stands.named.each honest content.shown (shown_left _)
 
   -- of which the first log is the active one
   pub has_active : IsTrue content.honest → HasActive (settled_rows content s.active.log) (shown_stores content s)
-  has_active honest = active_named s.manifest.shape s.manifest.current (shown_stores content s) (settled_rows content s.active.log) content.shown (shown_named honest)
-      (named_shape s.manifest.shape s.manifest.current content.shown) (named_body s.manifest.shape s.manifest.current content.shown)
-      (active_rows content.shown ∙ stands.active.images.each honest content.shown (shown_left content))
+  has_active honest = active_named _ _ _ _ _ (shown_named honest) (named_shape _ _ _) (named_body _ _ _) (active_rows _ ∙ stands.active.images.each honest
+      content.shown (shown_left _))
 
   -- the region of the active log in the stores
   pub active_is : (shown_stores content s).body.active ≡ s.manifest.current.active
-  active_is = ap (λ b. b.active) (named_body s.manifest.shape s.manifest.current content.shown)
+  active_is = ap (λ b. b.active) (named_body _ _ _)
 
   -- nothing is found, also with all rows
   pub all_sound : IsTrue content.honest → IsSound (with_log_rows s.manifest.current.active (settled_rows content s.active.log ++ waiting_rows content s.active.log) (shown_stores content s))
@@ -91,16 +84,15 @@ module _ (content : Content) (s : EngineState) (stands : Stands content s) where
 
   -- nothing is found in what is shown
   pub shown_sound : IsTrue content.honest → IsSound (shown_stores content s)
-  shown_sound honest = sound_settled (shown_stores content s) s.manifest.current.active (settled_rows content s.active.log)
-      (waiting_rows content s.active.log) active_is (has_active honest) (all_sound honest)
+  shown_sound honest = sound_settled _ _ _ _ active_is (has_active honest) (all_sound honest)
 
   -- the rows of the active log in the full image
   pub full_rows : IsTrue content.honest → log_rows s.manifest.shape s.manifest.current.active (full_image content s) ≡ all_rows content s.active.log
-  full_rows honest = active_rows (full_image content s) ∙ stands.active.full honest
+  full_rows honest = active_rows _ ∙ stands.active.full honest
 
   -- an image with a current record and stores of this shape has the record's digests
   pub says_held : (image : List ℕ) (t : Stores) → image_stores image ≡ Ok t → t.shape ≡ s.manifest.shape → RecordIsCurrent s.manifest image → image_digests image ≡ s.manifest.digests
-  says_held image t is same_shape is_current = says_current s.manifest.shape t (current_record s.manifest) image is same_shape is_current
+  says_held image t is same_shape is_current = says_current _ t _ image is same_shape is_current
 
   -- it is current in each possible crash image
   pub left_is_current : IsTrue content.honest → (image : List ℕ) → Left content image → RecordIsCurrent s.manifest image
@@ -114,19 +106,14 @@ module _ (content : Content) (s : EngineState) (stands : Stands content s) where
       let same_header : header_of (full_image content s) ≡ header_of content.shown =
       torn_slice_before (commits_at s.active.log.shape s.active.log.region) (log_size s.active.log.shape) content.shown (full_image content s) torn 0 37 (omega arith) (omega arith) in
       ap where_found (other_regions s.manifest.shape (commits_at s.active.log.shape s.active.log.region) (log_size s.active.log.shape)
-      content.shown (full_image content s) (omega (arith, active_size)) (inr (omega arith)) torn
-      (ap version_of same_header))
+      content.shown (full_image content s) (omega (arith, active_size)) (inr (omega arith)) torn (ap version_of same_header))
       ∙ left_is_current honest content.shown (shown_left content)
 
   -- an image that is changed in the region of the active log
   pub torn_active : (before image : List ℕ) (rows : List StoredRow) → image_stores before ≡ Ok (shown_stores content s)
       → Torn (commits_at s.active.log.shape s.active.log.region) (log_size s.active.log.shape) before image
       → log_rows s.active.log.shape s.active.log.region image ≡ rows → image_stores image ≡ Ok (with_log_rows s.manifest.current.active rows (shown_stores content s))
-  torn_active before image rows named torn are =
-      region_torn s.manifest.shape (shown_stores content s) s.manifest.current.active rows before image (named_shape s.manifest.shape s.manifest.current content.shown) named active_below
-      (subst (λ (n : ℕ). Torn (commits_at s.manifest.shape n) (log_size s.manifest.shape) before image) stands.whole.active_region
-      (subst (λ (sh : Shape). Torn (commits_at sh s.active.log.region) (log_size sh) before image) stands.whole.has_shape torn))
-      (active_rows image ∙ are)
+  torn_active before image rows named torn are = search (arith, region_torn, named_shape, active_below)
 
   -- the stores of the full image
   pub full_stores : IsTrue content.honest → image_stores (full_image content s) ≡ Ok (with_log_rows s.manifest.current.active (all_rows content s.active.log) (shown_stores content s))
@@ -170,15 +157,15 @@ module _ (content : Content) (s : EngineState) (stands : Stands content s) where
 
   -- the map of what is shown
   pub shown_map : IsTrue content.honest → image_map content.shown ≡ base_map content s
-  shown_map honest = stores_map (shown_stores content s) content.shown (shown_named honest) ∙ sym (base_is content s)
+  shown_map honest = stores_map _ _ (shown_named honest) ∙ sym (base_is _ s)
 
   -- each image represents the base
   pub base_stands : IsTrue content.honest → (image : List ℕ) → image_stores image ≡ Ok (shown_stores content s) → RecordIsCurrent s.manifest image
       → StandsFor s.manifest.shape (base_map content s) image
   base_stands honest image is is_current =
-      let same_shape = named_shape s.manifest.shape s.manifest.current content.shown in
+      let same_shape = named_shape _ _ _ in
       stands_for s.manifest.shape (shown_stores content s) s.manifest.digests (base_map content s) image is
-      same_shape (shown_sound honest) (stands.said honest) (says_held image (shown_stores content s) is same_shape is_current) (sym (base_is content s))
+      same_shape (shown_sound honest) (stands.said honest) (says_held image _ is same_shape is_current) (sym (base_is _ s))
 
   pub base_safe : LeavesOnly content (StandsFor s.manifest.shape (base_map content s))
   base_safe = record { each = λ honest image left. base_stands honest image (stands.named.each honest image left) (left_is_current honest image left) }
@@ -190,10 +177,11 @@ module _ (content : Content) (s : EngineState) (stands : Stands content s) where
       → StandsFor s.manifest.shape (map_after (base_map content s) (map command_of more)) image
   stands_with_rows honest image more is is_current sound =
       let t : Stores = with_log_rows s.manifest.current.active (settled_rows content s.active.log ++ more) (shown_stores content s) in
-      let same_shape : t.shape ≡ s.manifest.shape =
-      with_shape s.manifest.current.active (settled_rows content s.active.log ++ more) (shown_stores content s) ∙ named_shape s.manifest.shape s.manifest.current content.shown in
+      let same_shape : t.shape ≡ s.manifest.shape = with_shape _ _ _ ∙ named_shape _ _ _ in
       stands_for s.manifest.shape t s.manifest.digests (map_after (base_map content s) (map command_of more)) image is same_shape sound
-      (said_with_rows s.manifest.digests s.manifest.current.active (settled_rows content s.active.log ++ more) (shown_stores content s) (stands.said honest))
+      (said_with_rows _ _ _ _ (stands.said honest))
       (says_held image t is same_shape is_current)
-      (map_with_more (shown_stores content s) s.manifest.current.active (settled_rows content s.active.log) (waiting_rows content s.active.log) active_is (has_active honest) more
-      ∙ ap (λ (m : Map). map_after m (map command_of more)) (sym (base_is content s)))
+      (cc (
+        map_with_more (shown_stores content s) s.manifest.current.active (settled_rows content s.active.log) (waiting_rows content s.active.log) active_is (has_active honest) more,
+        base_is content s,
+      ))

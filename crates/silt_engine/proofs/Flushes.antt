@@ -1,14 +1,13 @@
 -- The waiting rows settled, and some of them.
-use Rattle.silt_engine.proofs.Common.{◌≡◌, ℕ, ◌+◌, ◌-◌, nat_lt, false, IsTrue, List, [], ◌++◌, map, take, drop, Ok, refl, ap, sym, ◌∙◌, subst, arith}
-use Rattle.silt_engine.proofs.Common.{map-append, take-append-drop, ChangesWithin, Content, LeavesOnly, size, Shape, commits_at, log_size, log_rows, StoredRow}
-use Rattle.silt_engine.proofs.Common.{put_count, LogState, all_rows, settled_rows, waiting_rows, none_waiting, LogStoreState, Map, map_after, Stores}
-use Rattle.silt_engine.proofs.Common.{image_stores, AreDigestsOf, IsSound, image_map, rows_of, with_log_rows, command_of, map_of_rows, EngineState, Stands}
-use Rattle.silt_engine.proofs.Common.{full_image, shown_stores, waiting_commands, Advances, Breaks, Remaps, IsQuiet, SameDisk, ltb-false, HasBeginning}
-use Rattle.silt_engine.proofs.Common.{commits_in_region, OpensSomeOfStore, OpensStore, again_law}
+use Rattle.silt_engine.proofs.Common.{◌≡◌, ◌+◌, ◌-◌, nat_lt, false, IsTrue, List, [], ◌++◌, map, take, drop, Ok, refl, ap, sym, ◌∙◌, subst, arith, map-append, take-append-drop}
+use Rattle.silt_engine.proofs.Common.{ChangesWithin, Content, LeavesOnly, size, commits_at, log_size, log_rows, StoredRow, LogState, all_rows, settled_rows, waiting_rows, none_waiting}
+use Rattle.silt_engine.proofs.Common.{LogStoreState, Stores, image_stores, rows_of, with_log_rows, command_of, EngineState, Stands, full_image, shown_stores, waiting_commands, Advances}
+use Rattle.silt_engine.proofs.Common.{Breaks, Remaps, IsQuiet, ltb-false, HasBeginning, commits_in_region, OpensSomeOfStore, OpensStore, again_law}
 use Rattle.std.proofs.lemmas.List.{append-nil}
 use Rattle.silt_engine.proofs.Named.{map_with_more, named_body, named_shape, rows_with_more, said_with_rows, sound_some, with_body, with_shape}
 use Rattle.silt_engine.proofs.Facts.{active_is, all_sound, base_is, full_map, has_active, map_with_rows, rows_split, stands_with_rows, torn_active}
-use Rattle.silt_engine.proofs.Standing.{Fits, digested_stays, fits_stand, frozen_stay, full_with, hashed_stay, located_stays, merged_stays, named_with, current_record_stays, shown_are, written_stays}
+use Rattle.silt_engine.proofs.Standing.{Fits, digested_stays, fits_stand, frozen_stay, full_with, hashed_stay, located_stays, merged_stays, named_with, current_record_stays, shown_are}
+use Rattle.silt_engine.proofs.Standing.{written_stays}
 use Rattle.silt_engine.proofs.Appends.{with_active}
 use Rattle.silt_engine.proofs.Wholes.{whole_with_active, written_with_active}
 
@@ -28,9 +27,6 @@ module _ (old new : Content) (s : EngineState) (after : LogStoreState) (stands :
   changed = commits_in_region s.active.log.shape s.active.log.region s.active.log.settled (s.active.log.used - s.active.log.settled)
       old new (omega (arith, stands.active.bounds.order, stands.active.bounds.room)) changes
 
-  pub flushed_disk : SameDisk old new
-  flushed_disk = record { size = sizes; honest = changes.honest }
-
   -- ---- all of them
 
   module _ (opens : OpensStore old new s.active after) where
@@ -43,10 +39,10 @@ module _ (old new : Content) (s : EngineState) (after : LogStoreState) (stands :
     now_is = refl
 
     same_shape : now.shape ≡ s.manifest.shape
-    same_shape = ap (λ (t : Stores). t.shape) now_is ∙ with_shape _ _ _ ∙ named_shape s.manifest.shape s.manifest.current old.shown
+    same_shape = ap (λ (t : Stores). t.shape) now_is ∙ with_shape _ _ _ ∙ named_shape _ _ _
 
     same_body : now.body ≡ s.manifest.current
-    same_body = ap (λ (t : Stores). t.body) now_is ∙ with_body _ _ _ ∙ named_body s.manifest.shape s.manifest.current old.shown
+    same_body = ap (λ (t : Stores). t.body) now_is ∙ with_body _ _ _ ∙ named_body _ _ _
 
     shape_same : after.log.shape ≡ s.active.log.shape
     shape_same = ap (λ (l : LogState). l.shape) opens.log.log
@@ -55,25 +51,22 @@ module _ (old new : Content) (s : EngineState) (after : LogStoreState) (stands :
     region_same = ap (λ (l : LogState). l.region) opens.log.log
 
     settled_all : after.log.settled ≡ after.log.used
-    settled_all = ap (λ (l : LogState). l.settled) opens.log.log ∙ sym (ap (λ (l : LogState). l.used) opens.log.log)
+    settled_all = cc (opens.log.log)
 
     -- in each image the log has all rows
     images : LeavesOnly new (λ image. log_rows s.active.log.shape s.active.log.region image ≡ settled_rows old s.active.log ++ waiting_rows old s.active.log)
     images = record {
-      each = λ h image left.
-          ap (λ (sh : Shape). log_rows sh s.active.log.region image) (sym shape_same) ∙ ap (λ (n : ℕ). log_rows after.log.shape n image) (sym region_same)
-          ∙ opens.stands.log.images.each h image left ∙ opens.log.settled (was h) ∙ rows_split old s stands;
+      each = λ h image left. cc (shape_same, region_same, opens.stands.log.images.each h image left, opens.log.settled (was h), rows_split old s stands);
     }
 
     named : LeavesOnly new (λ image. image_stores image ≡ Ok now)
     named = record {
-      each = λ h image left. (named_with old new s stands sizes changed (settled_rows old s.active.log ++ waiting_rows old s.active.log) images).each h image left ∙ ap Ok (sym now_is);
+      each = λ h image left. (named_with old new s stands sizes changed _ images).each h image left ∙ ap Ok (sym now_is);
     }
 
     -- all rows of the stores
     now_rows : IsTrue old.honest → rows_of now ≡ rows_of (shown_stores old s) ++ waiting_rows old s.active.log
-    now_rows h = ap rows_of now_is ∙ rows_with_more (shown_stores old s) s.manifest.current.active (settled_rows old s.active.log)
-        [] (active_is old s stands) (has_active old s stands h) (waiting_rows old s.active.log)
+    now_rows h = ap rows_of now_is ∙ rows_with_more _ _ _ [] (active_is old s stands) (has_active old s stands h) _
 
     none : waiting_rows new after.log ≡ []
     none = none_waiting new after.log settled_all
@@ -95,33 +88,37 @@ module _ (old new : Content) (s : EngineState) (after : LogStoreState) (stands :
       same_body = same_body;
       named = named;
       sound = λ h.
-          subst (λ (t : Stores). IsSound (with_log_rows s.manifest.current.active (all_rows new after.log) t)) (sym now_is)
-          (subst IsSound (sym (again_law (shown_stores old s) s.manifest.current.active (settled_rows old s.active.log ++ waiting_rows old s.active.log) (all_rows new after.log)))
-          (subst (λ (rows : List StoredRow). IsSound (with_log_rows s.manifest.current.active rows (shown_stores old s)))
-          (sym (opens.log.all (was h) ∙ rows_split old s stands)) (all_sound old s stands (was h))));
-      said = λ h. subst (λ (t : Stores). AreDigestsOf s.manifest.digests t) (sym now_is)
-          (said_with_rows s.manifest.digests s.manifest.current.active (settled_rows old s.active.log ++ waiting_rows old s.active.log) (shown_stores old s) (stands.said (was h)));
-      counted = λ h.
-          stands.counted (was h) ∙ ap put_count (sym (now_rows (was h)) ∙ sym (append-nil (rows_of now)) ∙ ap (λ (rows : List StoredRow). rows_of now ++ rows) (sym none));
+          rw (
+            ← (opens.log.all (was h) ∙ rows_split old s stands),
+            ← (again_law (shown_stores old s) s.manifest.current.active (settled_rows old s.active.log ++ waiting_rows old s.active.log) (all_rows new after.log)),
+            ← now_is,
+          )
+          at (all_sound old s stands (was h));
+      said = λ h. rw (← now_is) at (said_with_rows s.manifest.digests s.manifest.current.active (settled_rows old s.active.log ++ waiting_rows old s.active.log)
+          (shown_stores old s) (stands.said (was h)));
+      counted = λ h. cc (stands.counted (was h), now_rows (was h), append-nil (rows_of now), none);
     }
 
     pub flushed : Advances [] old new s (with_active s after s.charge)
     flushed = record {
-      stands = fits_stand new (with_active s after s.charge) now fits;
+      stands = fits_stand new _ now fits;
       shape = refl;
       moves = λ h. record {
         moved = waiting_commands old s;
         rest = ap (λ (rows : List StoredRow). waiting_commands old s ++ map command_of rows) none;
         base =
-            base_is new (with_active s after s.charge)
-            ∙ ap (λ (t : Stores). map_of_rows (rows_of t)) (shown_are new (with_active s after s.charge) now same_shape same_body named (there h) ∙ now_is)
-            ∙ map_with_more (shown_stores old s) s.manifest.current.active (settled_rows old s.active.log) [] (active_is old s stands) (has_active old s stands h) (waiting_rows old s.active.log)
-            ∙ ap (λ (m : Map). map_after m (waiting_commands old s)) (sym (base_is old s));
+            cc (
+              base_is new (with_active s after s.charge),
+              shown_are new (with_active s after s.charge) now same_shape same_body named (there h),
+              now_is,
+              map_with_more (shown_stores old s) s.manifest.current.active (settled_rows old s.active.log) [] (active_is old s stands) (has_active old s stands h) (waiting_rows old s.active.log),
+              base_is old s,
+            );
       };
     }
 
     pub flushed_quiet : IsQuiet new (with_active s after s.charge)
-    flushed_quiet = quiet new (with_active s after s.charge) settled_all
+    flushed_quiet = quiet new _ settled_all
 
   -- ---- some of them
 
@@ -136,13 +133,12 @@ module _ (old new : Content) (s : EngineState) (after : LogStoreState) (stands :
           let some : List StoredRow = take has.0 waiting in
           let from = changed.left o image left in
           let is : image_stores image ≡ Ok (with_log_rows s.manifest.current.active (settled_rows old s.active.log ++ some) (shown_stores old s)) =
-          torn_active old s stands from.0 image (settled_rows old s.active.log ++ some) (stands.named.each o from.0 from.1) from.2 has.2 in
+          torn_active old s stands from.0 image _ (stands.named.each o from.0 from.1) from.2 has.2 in
           record {
             kept = map command_of some;
             begins = record { rest = map command_of (drop has.0 waiting); is = sym (map-append command_of some (drop has.0 waiting)) ∙ ap (map command_of) (take-append-drop has.0 waiting) };
-            stands = stands_with_rows old s stands o image some is ((current_record_stays old new s stands sizes changed).each h image left).current
-                (sound_some (shown_stores old s) s.manifest.current.active (settled_rows old s.active.log) waiting (active_is old s stands)
-                (has_active old s stands o) has.0 (all_sound old s stands o));
+            stands = stands_with_rows old s stands o image some is ((current_record_stays old new s stands sizes changed).each h image left).current (sound_some
+                _ _ _ _ (active_is old s stands) (has_active old s stands o) has.0 (all_sound old s stands o));
           };
     }
 
@@ -151,15 +147,10 @@ module _ (old new : Content) (s : EngineState) (after : LogStoreState) (stands :
     flush_failed_map h =
         let same : after.log ≡ s.active.log = opens.log.log in
         let is : image_stores (full_image new s) ≡ Ok (with_log_rows s.manifest.current.active (settled_rows old s.active.log ++ waiting_rows old s.active.log) (shown_stores old s)) =
-        full_with old new s stands sizes changed (there h) s.active.log (settled_rows old s.active.log ++ waiting_rows old s.active.log) refl refl stands.active.bounds
+        full_with old new s stands sizes changed (there h) _ _ refl refl stands.active.bounds
         (opens.log.full h ∙ rows_split old s stands) in
-        ap (λ (l : LogState). image_map (full_image new (with_active s (record after { log = l }) s.charge))) same
-        ∙ map_with_rows old s stands h (full_image new s) (waiting_rows old s.active.log) is
-        ∙ sym (full_map old s stands h)
+        cc (map_with_rows old s stands h (full_image new s) (waiting_rows old s.active.log) is, full_map old s stands h)
 
 -- nor if no row waits
 pub quiet_when : (content : Content) (s : EngineState) → Stands content s → nat_lt s.active.log.settled s.active.log.used ≡ false → IsQuiet content s
-quiet_when content s stands none =
-    let past = ltb-false s.active.log.settled s.active.log.used none in
-    let order = stands.active.bounds.order in
-    quiet content s (omega (arith, past, order))
+quiet_when content s stands none = quiet _ s (omega (arith, ltb-false s.active.log.settled s.active.log.used none, stands.active.bounds.order))

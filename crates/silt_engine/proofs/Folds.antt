@@ -1,15 +1,12 @@
 -- Rows done on a map in memory.
-use Rattle.silt_engine.proofs.Common.{◌≡◌, ◌<◌, ℕ, ◌+◌, ◌*◌, ◌==◌, Bool, cond, if◌then◌else◌, true, false, List, [], ◌∷◌, ◌++◌, ◌-◌, length, filter, map, take}
-use Rattle.silt_engine.proofs.Common.{drop, get_or, Some, None, refl, ap, sym, ◌∙◌, subst, arith, get, get-insert, get-remove, nat_list_cmp_total, length-drop}
-use Rattle.silt_engine.proofs.Common.{map-append, take_all, take_more, filter-append, get_or_from_slice_get, slice_get_within, Shape, Key, slot_row, hash_rows}
-use Rattle.silt_engine.proofs.Common.{all_before, Command, Map, changed, delete, map_after, put, command_of, oldest_first, map_after-append, entry_row}
-use Rattle.silt_engine.proofs.Common.{has_known_kind, StoredRow, key_cmp, stored_row, Put, AreEntriesOf, DoesRows, empty, get-empty, eq_by_cmp_equiv, drop_more}
-use Rattle.silt_engine.proofs.Common.{before_more, HasEntry}
+use Rattle.silt_engine.proofs.Common.{◌≡◌, ◌<◌, ℕ, ◌+◌, ◌*◌, ◌==◌, true, false, List, [], ◌∷◌, ◌++◌, ◌-◌, length, filter, map, take, drop, get_or, Some, None, refl, ap, sym, ◌∙◌, subst}
+use Rattle.silt_engine.proofs.Common.{arith, get-insert, get-remove, nat_list_cmp_total, length-drop, map-append, take_all, take_more, filter-append, get_or_from_slice_get, slice_get_within}
+use Rattle.silt_engine.proofs.Common.{Shape, Key, slot_row, hash_rows, all_before, delete, map_after, put, command_of, oldest_first, map_after-append, entry_row, has_known_kind, StoredRow}
+use Rattle.silt_engine.proofs.Common.{key_cmp, stored_row, Put, AreEntriesOf, DoesRows, empty, get-empty, eq_by_cmp_equiv, drop_more, before_more, HasEntry}
 use Rattle.std.specs.BTreeMap as tree
 use Rattle.std.specs.Ordering.{nat_cmp, eq_by_cmp}
 use Rattle.std.specs.Cmp.Lexicographic.{slice_cmp}
 use Rattle.std.specs.BTreeMap.{BTreeMap}
-use Rattle.std.specs.Map.{lookup}
 use Rattle.silt_hash_store.specs.Slots.{rows_before}
 
 -- which of two keys is named first does not matter
@@ -20,32 +17,20 @@ tied a b = (eq_by_cmp_equiv nat_list_cmp_total).symm a b
 pub does_put : (row : StoredRow) (key : Key) (before after : BTreeMap Key (List ℕ)) → row.kind ≡ 1 → row.key ≡ key.0
     → tree.Updates key_cmp before after key (Some row.value) → DoesRows (row ∷ []) before after
 does_put row key before after kind same updates m are q =
-    let is : command_of row ≡ put key.0 row.value = ap (λ (n : ℕ). if n == 1 then put row.key row.value else delete row.key) kind ∙ ap (λ (k : List ℕ). put k row.value) same in
-    updates.0 q
-    ∙ ap (cond (eq_by_cmp (slice_cmp nat_cmp) key.0 q.0) (Some row.value)) (are q)
-    ∙ ap (λ (b : Bool). cond b (Some row.value) (get m q.0)) (tied key.0 q.0)
-    ∙ sym (get-insert nat_list_cmp_total m key.0 row.value q.0)
-    ∙ ap (λ (c : Command). get (changed m c) q.0) (sym is)
+    let is : command_of row ≡ put key.0 row.value = cc in
+    cc (updates.0 q, are q, tied key.0 q.0, get-insert nat_list_cmp_total m key.0 row.value q.0)
 
 -- a row that is this put was done
 pub does_row : (row : StoredRow) (key : Key) (value : List ℕ) (before after : BTreeMap Key (List ℕ)) → row.kind ≡ 1 → key.0 ≡ row.key
     → value ≡ row.value → DoesRows (stored_row Put key value ∷ []) before after → DoesRows (row ∷ []) before after
-does_row row key value before after kind same_key same_value does =
-    let is : stored_row Put key value ≡ row = ap (λ (n : ℕ). record { kind = n; key = key.0; value = value }) (sym kind)
-    ∙ ap (λ (k : List ℕ). record { kind = row.kind; key = k; value = value }) same_key
-    ∙ ap (λ (v : List ℕ). record { kind = row.kind; key = row.key; value = v }) same_value in
-    subst (λ (r : StoredRow). DoesRows (r ∷ []) before after) is does
+does_row row key value before after kind same_key same_value does = search arith
 
 -- a delete was done
 pub does_delete : (row : StoredRow) (key : Key) (before after : BTreeMap Key (List ℕ)) → (row.kind == 1) ≡ false → row.key ≡ key.0
     → tree.UpdatesBy key_cmp (key_cmp key) before after None → DoesRows (row ∷ []) before after
 does_delete row key before after kind same updates m are q =
-    let is : command_of row ≡ delete key.0 = ap (λ (b : Bool). if b then put row.key row.value else delete row.key) kind ∙ ap delete same in
-    updates.0 q
-    ∙ ap (cond (eq_by_cmp (slice_cmp nat_cmp) key.0 q.0) None) (are q)
-    ∙ ap (λ (b : Bool). cond b None (get m q.0)) (tied key.0 q.0)
-    ∙ sym (get-remove nat_list_cmp_total m key.0 q.0)
-    ∙ ap (λ (c : Command). get (changed m c) q.0) (sym is)
+    let is : command_of row ≡ delete key.0 = cc in
+    cc (updates.0 q, are q, tied key.0 q.0, get-remove nat_list_cmp_total m key.0 q.0)
 
 -- no row was done
 pub does_none : (entries : BTreeMap Key (List ℕ)) → DoesRows [] entries entries
@@ -54,14 +39,13 @@ does_none entries m are = are
 -- further rows were done
 pub does_more : (rows more : List StoredRow) (a b c : BTreeMap Key (List ℕ)) → DoesRows rows a b → DoesRows more b c → DoesRows (rows ++ more) a c
 does_more rows more a b c first second m are =
-    subst (λ (n : Map). AreEntriesOf n c) (sym (ap (map_after m) (map-append command_of rows more) ∙ map_after-append m (map command_of rows) (map command_of more)))
-    (second (map_after m (map command_of rows)) (first m are))
+    rw (← (ap (map_after m) (map-append command_of rows more) ∙ map_after-append m (map command_of rows) (map command_of more))) at (second (map_after m (map command_of rows)) (first m are))
 
 -- one more row of some was done
 pub does_next : (rows : List StoredRow) (n : ℕ) (row : StoredRow) (a b c : BTreeMap Key (List ℕ)) → n < length rows → get_or rows n row ≡ row
     → DoesRows (take n rows) a b → DoesRows (row ∷ []) b c → DoesRows (take (n + 1) rows) a c
 does_next rows n row a b c inside is first second =
-    subst (λ (l : List StoredRow). DoesRows l a c) (sym (take_more rows n row inside ∙ ap (λ (r : StoredRow). take n rows ++ r ∷ []) is)) (does_more (take n rows) (row ∷ []) a b c first second)
+    rw (← (take_more rows n row inside ∙ ap (λ (r : StoredRow). take n rows ++ r ∷ []) is)) at (does_more (take n rows) (row ∷ []) a b c first second)
 
 -- one more entry was done
 pub does_entry : (rows : List StoredRow) (place : ℕ) (bytes : List ℕ) (key : Key) (value : List ℕ) (a b c : BTreeMap Key (List ℕ))
@@ -75,15 +59,7 @@ does_entry rows place bytes key value a b c there key_is value_is first second =
 
 -- a row of a known kind was done
 pub does_kept : (row : StoredRow) (before after : BTreeMap Key (List ℕ)) → has_known_kind row ≡ true → DoesRows (row ∷ []) before after → DoesRows (filter has_known_kind (row ∷ [])) before after
-does_kept row before after known does =
-    let kept : filter has_known_kind (row ∷ []) ≡ row ∷ [] = rw known refl in
-    subst (λ (l : List StoredRow). DoesRows l before after) (sym kept) does
-
--- a row of another kind counts for nothing
-pub does_dropped : (row : StoredRow) (entries : BTreeMap Key (List ℕ)) → has_known_kind row ≡ false → DoesRows (filter has_known_kind (row ∷ [])) entries entries
-does_dropped row entries unknown =
-    let none : filter has_known_kind (row ∷ []) ≡ [] = rw unknown refl in
-    subst (λ (l : List StoredRow). DoesRows l entries entries) (sym none) (does_none entries)
+does_kept row before after known does = search arith
 
 module _ (shape : Shape) (region : ℕ) (image : List ℕ) where
   -- no slot was done
@@ -95,28 +71,22 @@ module _ (shape : Shape) (region : ℕ) (image : List ℕ) where
   pub does_slot : (slot : ℕ) (a b c : BTreeMap Key (List ℕ)) → DoesRows (filter has_known_kind (rows_before shape region image slot)) a b
       → DoesRows (filter has_known_kind (slot_row shape region image slot ∷ [])) b c
       → DoesRows (filter has_known_kind (rows_before shape region image (slot + 1))) a c
-  does_slot slot a b c first second =
-      let split : filter has_known_kind (rows_before shape region image (slot + 1)) ≡ filter has_known_kind (rows_before shape region image slot)
-      ++ filter has_known_kind (slot_row shape region image slot ∷ []) =
-      ap (filter has_known_kind) (before_more shape region image slot) ∙ filter-append has_known_kind (rows_before shape region image slot) (slot_row shape region image slot ∷ []) in
-      subst (λ (l : List StoredRow). DoesRows l a c) (sym split)
-      (does_more (filter has_known_kind (rows_before shape region image slot)) (filter has_known_kind (slot_row shape region image slot ∷ [])) a b c first second)
+  does_slot slot a b c first second = search (arith, before_more, filter-append, does_more)
 
   -- all slots were done
   pub does_slots : (count : ℕ) (a b : BTreeMap Key (List ℕ)) → count ≡ 4 * shape.buckets
       → DoesRows (filter has_known_kind (rows_before shape region image count)) a b → DoesRows (filter has_known_kind (hash_rows shape region image)) a b
-  does_slots count a b all does =
-      subst (λ (l : List StoredRow). DoesRows (filter has_known_kind l) a b) (ap (rows_before shape region image) all ∙ sym (all_before shape region image)) does
+  does_slots count a b all does = rw (ap (rows_before shape region image) all ∙ sym (all_before shape region image)) at does
 
 -- ---- all rows
 
 -- from no entries
 pub does_all : (rows : List StoredRow) (first last : BTreeMap Key (List ℕ)) → tree.IsEmpty first → DoesRows rows first last → AreEntriesOf (map_after empty (map command_of rows)) last
-does_all rows first last none does = does empty (λ key. ap (lookup (tree.is_at (key_cmp key))) none ∙ sym (get-empty (slice_cmp nat_cmp) key.0))
+does_all rows first last none does = does empty (λ key. cc (get-empty (slice_cmp nat_cmp) key.0))
 
 -- all of some rows were done
 pub does_whole : (rows : List StoredRow) (n : ℕ) (a b : BTreeMap Key (List ℕ)) → length rows ≡ n → DoesRows (take n rows) a b → DoesRows rows a b
-does_whole rows n a b counted does = subst (λ (l : List StoredRow). DoesRows l a b) (take_all n rows (omega (arith, counted))) does
+does_whole rows n a b counted does = rw (take_all n rows (omega (arith, counted))) at does
 
 -- the bytes from a place on
 pub bytes_from : (bytes : List ℕ) (n : ℕ) → take (length bytes - n) (drop n bytes) ≡ drop n bytes
@@ -126,5 +96,5 @@ bytes_from bytes n = take_all (length bytes - n) (drop n bytes) (omega (arith, l
 pub does_log : {X : Type 0} (rows_of : X → List StoredRow) (logs : List X) (n k : ℕ) (log : X) (a b c : BTreeMap Key (List ℕ)) → k ≡ n + 1 → n < length logs → get_or logs n log ≡ log
     → DoesRows (oldest_first (map rows_of (drop k logs))) a b → DoesRows (rows_of log) b c → DoesRows (oldest_first (map rows_of (drop n logs))) a c
 does_log rows_of logs n k log a b c next inside is first second =
-    let split : drop n logs ≡ log ∷ drop k logs = drop_more logs n log inside ∙ ap (λ x. x ∷ drop (n + 1) logs) is ∙ ap (λ (m : ℕ). log ∷ drop m logs) (sym next) in
+    let split : drop n logs ≡ log ∷ drop k logs = cc (drop_more logs n log inside) in
     subst (λ l. DoesRows (oldest_first (map rows_of l)) a c) (sym split) (does_more (oldest_first (map rows_of (drop k logs))) (rows_of log) a b c first second)

@@ -1,21 +1,17 @@
 -- The steps of freezing.
-use Rattle.silt_engine.proofs.Common.{◌≡◌, ◌≢◌, ◌<◌, ℕ, ◌+◌, ◌-◌, ◌%◌, false, IsTrue, List, [], ◌∷◌, ◌++◌, suc, length, map, take, drop, replicate, Option}
-use Rattle.silt_engine.proofs.Common.{None, Ok, inr, refl, ap, sym, ◌∙◌, subst, arith, Contains, IfSome, take-append-drop, ChangesWithin, Content, LeavesOnly}
-use Rattle.silt_engine.proofs.Common.{LiesOutside, size, Shape, device_size, commits_at, log_len, log_size, slot_at, within_wider, up_least, log_rows, StoredRow}
-use Rattle.silt_engine.proofs.Common.{put_count, all_rows, KeepsRows, waiting_kept, IsLogStore, LogStoreState, ConversionState, HasWritten, ManifestState}
-use Rattle.silt_engine.proofs.Common.{IsCurrent, Body, Digests, current_record_elsewhere, map_after, Stores, image_stores, AreDigestsOf, IsSound, rows_of}
-use Rattle.silt_engine.proofs.Common.{with_log_rows, command_of, map_of_rows, whole_law, MergeState, IsMerging, IsUnderWay, EngineState, oldest_log}
-use Rattle.silt_engine.proofs.Common.{HasGathered, Stands, base_map, current_map, full_image, shown_stores, waiting_commands, Advances, IsQuiet, SameDisk}
-use Rattle.silt_engine.proofs.Common.{names_region, entries_behind_log, LogState, NextLog, IsEmptied, IsNextLog, log_elsewhere, names_log, unnamed_law}
-use Rattle.silt_engine.proofs.Common.{EmptiesStore}
+use Rattle.silt_engine.proofs.Common.{◌≡◌, ◌≢◌, ◌<◌, ℕ, ◌%◌, false, IsTrue, List, [], ◌∷◌, suc, map, Option, None, Ok, inr, refl, ap, sym, ◌∙◌, subst, arith, Contains, IfSome}
+use Rattle.silt_engine.proofs.Common.{take-append-drop, ChangesWithin, Content, LeavesOnly, LiesOutside, size, Shape, device_size, commits_at, log_len, log_size, slot_at, within_wider}
+use Rattle.silt_engine.proofs.Common.{up_least, log_rows, StoredRow, all_rows, KeepsRows, waiting_kept, IsLogStore, LogStoreState, ConversionState, HasWritten, ManifestState, IsCurrent}
+use Rattle.silt_engine.proofs.Common.{Body, current_record_elsewhere, map_after, Stores, image_stores, IsSound, with_log_rows, command_of, whole_law, MergeState, IsMerging, IsUnderWay}
+use Rattle.silt_engine.proofs.Common.{EngineState, oldest_log, HasGathered, Stands, base_map, current_map, full_image, shown_stores, waiting_commands, Advances, IsQuiet, names_region}
+use Rattle.silt_engine.proofs.Common.{entries_behind_log, NextLog, IsEmptied, IsNextLog, log_elsewhere, names_log, unnamed_law, EmptiesStore}
 use Rattle.std.proofs.lemmas.List.{append-nil}
 use Rattle.std.proofs.Math.Nat.{mod-lt}
 use Rattle.silt_engine.proofs.Named.{named_body, named_shape, region_torn}
 use Rattle.silt_engine.proofs.Facts.{active_size, base_is, shown_named}
-use Rattle.silt_engine.proofs.Elsewhere.{all_frozen_elsewhere, all_hashed_elsewhere, digested_elsewhere, entries_behind_manifest, indexed_same}
-use Rattle.silt_engine.proofs.Elsewhere.{located_elsewhere, merged_all_elsewhere, not_among, outside_other, outside_slot, slots_behind_log}
-use Rattle.silt_engine.proofs.Elsewhere.{slots_behind_manifest, written_all_elsewhere, IsApart, IsPastSlots, IsPastEntries, IsOutsideConversion, IsOutsideMerge}
-use Rattle.silt_engine.proofs.Elsewhere.{region_before_conversion, region_before_merge, on_some}
+use Rattle.silt_engine.proofs.Elsewhere.{all_frozen_elsewhere, all_hashed_elsewhere, digested_elsewhere, entries_behind_manifest, indexed_same, located_elsewhere, merged_all_elsewhere}
+use Rattle.silt_engine.proofs.Elsewhere.{not_among, outside_other, outside_slot, slots_behind_log, slots_behind_manifest, written_all_elsewhere, IsApart, IsPastSlots, IsPastEntries}
+use Rattle.silt_engine.proofs.Elsewhere.{IsOutsideConversion, IsOutsideMerge, region_before_conversion, region_before_merge, on_some}
 use Rattle.silt_engine.proofs.Standing.{Fits, fits_stand, shown_are}
 use Rattle.silt_engine.proofs.Wholes.{whole_with}
 
@@ -25,7 +21,7 @@ use Rattle.silt_engine.proofs.Wholes.{whole_with}
 pub store_elsewhere : (old new : Content) (store : LogStoreState) (at count : ℕ) → IsLogStore old store → size old ≡ device_size store.log.shape → size new ≡ size old
     → LiesOutside (commits_at store.log.shape store.log.region) (log_len store.log.shape) at count → ChangesWithin at count old new → IsLogStore new store
 store_elsewhere old new store at count stands sized sizes outside changes =
-    let keeps : KeepsRows old new store.log store.log = log_elsewhere old new store.log at count stands.log (omega (arith, sized)) sizes outside changes in
+    let keeps : KeepsRows old new store.log store.log = log_elsewhere old new _ at count stands.log (omega (arith, sized)) sizes outside changes in
     record {
       log = keeps.stands;
       index = indexed_same old new store (λ h. subst IsTrue changes.honest h) (λ h. keeps.all (subst IsTrue changes.honest h)) stands.index;
@@ -34,13 +30,9 @@ store_elsewhere old new store at count stands sized sizes outside changes =
 module _ (old new : Content) (s : EngineState) (at count : ℕ) (stands : Stands old s) (sizes : size new ≡ size old) (changes : ChangesWithin at count old new)
     (apart : IsTrue old.honest → IsApart s.manifest.shape s.manifest.current at count)
     (outside : LiesOutside (commits_at s.manifest.shape s.manifest.current.active) (log_len s.manifest.shape) at count) where
-  pub same_here : SameDisk old new
-  same_here = record { size = sizes; honest = changes.honest }
-
   pub kept : KeepsRows old new s.active.log s.active.log
-  kept = log_elsewhere old new s.active.log at count stands.active (omega (arith, active_size old s stands)) sizes
-      (subst (λ (sh : Shape). LiesOutside (commits_at sh s.active.log.region) (log_len sh) at count) (sym stands.whole.has_shape)
-      (subst (λ (n : ℕ). LiesOutside (commits_at s.manifest.shape n) (log_len s.manifest.shape) at count) (sym stands.whole.active_region) outside)) changes
+  kept = log_elsewhere old new _ at count stands.active (omega (arith, active_size old s stands)) sizes
+      (rw (← stands.whole.active_region, ← stands.whole.has_shape) at outside) changes
 
   -- the stores stand in this state, with the same rows waiting
   module _ (m : ManifestState) (converting : Option ConversionState) (merging : Option MergeState) (same_shape : m.shape ≡ s.manifest.shape)
@@ -55,10 +47,10 @@ module _ (old new : Content) (s : EngineState) (at count : ℕ) (stands : Stands
     back h = subst IsTrue changes.honest h
 
     t_shape : (shown_stores old s).shape ≡ m.shape
-    t_shape = named_shape s.manifest.shape s.manifest.current old.shown ∙ sym same_shape
+    t_shape = named_shape _ _ _ ∙ sym same_shape
 
     t_body : (shown_stores old s).body ≡ m.current
-    t_body = named_body s.manifest.shape s.manifest.current old.shown ∙ sym same_current
+    t_body = named_body _ _ _ ∙ sym same_current
 
     fits_on : Fits new after (shown_stores old s)
     fits_on = record {
@@ -77,26 +69,22 @@ module _ (old new : Content) (s : EngineState) (at count : ℕ) (stands : Stands
       same_body = t_body;
       named = named;
       sound = λ h.
-          let active_of : s.active.log.region ≡ m.current.active = stands.whole.active_region ∙ ap (λ (b : Body). b.active) (sym same_current) in
+          let active_of : s.active.log.region ≡ m.current.active = cc (stands.whole.active_region) in
           subst (λ (rows : List StoredRow). IsSound (with_log_rows m.current.active rows (shown_stores old s))) (sym (kept.all (back h)))
           (subst (λ (n : ℕ). IsSound (with_log_rows n (all_rows old s.active.log) (shown_stores old s))) active_of (stands.sound (back h)));
-      said = λ h. subst (λ (o : Option Digests). AreDigestsOf o (shown_stores old s)) (sym same_digests) (stands.said (back h));
-      counted = λ h.
-          stands.counted (back h) ∙ ap (λ (rows : List StoredRow). put_count (rows_of (shown_stores old s) ++ rows)) (sym (waiting_kept old new s.active.log s.active.log stands.active (back h) kept));
+      said = λ h. rw (← same_digests) at (stands.said (back h));
+      counted = λ h. cc (stands.counted (back h), waiting_kept old new s.active.log s.active.log stands.active (back h) kept);
     }
 
     -- they still stand
     pub stays_with : Advances [] old new s after
     stays_with = record {
-      stands = fits_stand new after (shown_stores old s) fits_on;
+      stands = fits_stand new after _ fits_on;
       shape = same_shape;
       moves = λ h. record {
         moved = [];
-        rest = ap (map command_of) (waiting_kept old new s.active.log s.active.log stands.active h kept) ∙ sym (append-nil (waiting_commands old s));
-        base =
-            base_is new after
-            ∙ ap (λ (u : Stores). map_of_rows (rows_of u)) (shown_are new after (shown_stores old s) t_shape t_body named (subst IsTrue (sym changes.honest) h))
-            ∙ sym (base_is old s);
+        rest = ap (map command_of) (waiting_kept old new _ _ stands.active h kept) ∙ sym (append-nil (waiting_commands old s));
+        base = cc (base_is new after, shown_are new after (shown_stores old s) t_shape t_body named (subst IsTrue (sym changes.honest) h), base_is old s);
       };
     }
 
@@ -108,10 +96,7 @@ module _ (old new : Content) (s : EngineState) (at count : ℕ) (stands : Stands
   pub stays_on : (IsTrue old.honest → IsOutsideConversion s at count) → (IsTrue old.honest → IsOutsideMerge s at count)
       → (m : ManifestState) → m.shape ≡ s.manifest.shape → m.current ≡ s.manifest.current → m.digests ≡ s.manifest.digests → m.prepared ≡ None → IsCurrent m new
       → LeavesOnly new (λ image. image_stores image ≡ Ok (shown_stores old s)) → Advances [] old new s (record s { manifest = m })
-  stays_on outside_slots outside_merge m same_shape same_current same_digests idle is_current named =
-      stays_with m s.converting s.merging same_shape same_current same_digests idle is_current named stands.whole.under_way
-      (written_all_elsewhere old new s at count stands changes apart s.converting outside_slots stands.whole.under_way stands.written)
-      stands.whole.merging (merged_on outside_merge)
+  stays_on outside_slots outside_merge m same_shape same_current same_digests idle is_current named = search (arith, stays_with, written_all_elsewhere, merged_on)
 
 -- ---- the region of the new log
 
@@ -124,16 +109,12 @@ later_contains first ids id (k, inside, here) = (suc k, omega (arith, inside), h
 
 -- it lies apart from the logs, the hash stores and the sorted store
 pub region_apart : (shape : Shape) (body : Body) (region : ℕ) → region < shape.logs → names_region body region ≡ false → IsApart shape body (commits_at shape region) (log_size shape)
-region_apart shape body region below free = record {
-  frozen = λ id there. outside_other shape id region (not_named body region free id (later_contains body.active body.frozen id there));
-  hashed = λ id there. slots_behind_log shape region id below;
-  sorted = entries_behind_log shape region body.sorted below;
-}
+region_apart shape body region below free = search (arith, outside_other, not_named, later_contains, slots_behind_log, entries_behind_log)
 
 module _ (old new : Content) (s : EngineState) (region : ℕ) (stands : Stands old s) (below : region < s.manifest.shape.logs) (free : names_region s.manifest.current region ≡ false)
     (sizes : size new ≡ size old) (commits : ChangesWithin (commits_at s.manifest.shape region) s.manifest.shape.log_capacity old new) where
   in_region : ChangesWithin (commits_at s.manifest.shape region) (log_size s.manifest.shape) old new
-  in_region = within_wider (commits_at s.manifest.shape region) (log_size s.manifest.shape) (omega arith) (omega (arith, up_least s.manifest.shape.log_capacity)) commits
+  in_region = within_wider _ _ (omega arith) (omega (arith, up_least s.manifest.shape.log_capacity)) commits
 
   -- each possible crash image has the same stores
   free_named : LeavesOnly new (λ image. image_stores image ≡ Ok (shown_stores old s))
@@ -142,10 +123,8 @@ module _ (old new : Content) (s : EngineState) (region : ℕ) (stands : Stands o
         let o : IsTrue old.honest = subst IsTrue commits.honest h in
         let t : Stores = shown_stores old s in
         let from = in_region.left o image left in
-        let names : names_log t region ≡ false = (whole_law old.shown t (shown_named old s stands o)).names region
-        ∙ ap (λ (b : Body). names_region b region) (named_body s.manifest.shape s.manifest.current old.shown) ∙ free in
-        region_torn s.manifest.shape t region (log_rows s.manifest.shape region image) from.0 image (named_shape s.manifest.shape s.manifest.current old.shown)
-        (stands.named.each o from.0 from.1) below from.2 refl
+        let names : names_log t region ≡ false = cc ((whole_law old.shown t (shown_named old s stands o)).names region, named_body s.manifest.shape s.manifest.current old.shown) in
+        region_torn _ t region _ from.0 image (named_shape _ _ _) (stands.named.each o from.0 from.1) below from.2 refl
         ∙ ap Ok (unnamed_law t region (log_rows s.manifest.shape region image) names);
   }
 
@@ -154,29 +133,15 @@ module _ (old new : Content) (s : EngineState) (region : ℕ) (stands : Stands o
 
   -- the stores still stand
   pub cleared : Advances [] old new s s
-  cleared = stays_on old new s (commits_at s.manifest.shape region) (log_size s.manifest.shape) stands sizes in_region
-      (λ h. region_apart s.manifest.shape s.manifest.current region below free) outside_active
-      (λ h. region_before_conversion s region below) (λ h. region_before_merge s region below) s.manifest refl refl refl stands.idle
-      (current_record_elsewhere s.manifest (commits_at s.manifest.shape region) (log_size s.manifest.shape) old new (omega (arith, stands.has_size)) (inr (omega arith)) in_region stands.current)
-      free_named
-
-  pub cleared_disk : SameDisk old new
-  cleared_disk = record { size = sizes; honest = commits.honest }
+  cleared = stays_on old new s _ _ stands sizes in_region (λ h. region_apart _ _ region below free) outside_active (λ h. region_before_conversion s region
+      below) (λ h. region_before_merge s region below) _ refl refl refl stands.idle (current_record_elsewhere _ _ _ old new (omega (arith, stands.has_size)) (inr
+      (omega arith)) in_region stands.current) free_named
 
 -- ---- the manifest
 
 -- with no row waiting the full image is what is shown
 pub full_quiet : (content : Content) (s : EngineState) → s.active.log.settled ≡ s.active.log.used → full_image content s ≡ content.shown
-full_quiet content s settled =
-    let at : ℕ = commits_at s.active.log.shape s.active.log.region + s.active.log.settled in
-    let none : s.active.log.used - s.active.log.settled ≡ 0 = omega arith in
-    let nothing : replicate {A = ℕ} 0 167 ≡ [] = refl in
-    let end : at + 0 ≡ at = omega arith in
-    ap (λ (n : ℕ). take at content.shown ++ replicate n 167 ++ drop (at + length (replicate {A = ℕ} n 167)) content.shown) none
-    ∙ ap (λ (ones : List ℕ). take at content.shown ++ ones ++ drop (at + length ones) content.shown) nothing
-    ∙ ap (λ (front : List ℕ). front ++ drop (at + 0) content.shown) (append-nil (take at content.shown))
-    ∙ ap (λ (n : ℕ). take at content.shown ++ drop n content.shown) end
-    ∙ take-append-drop at content.shown
+full_quiet content s settled = search (arith, append-nil, take-append-drop)
 
 -- with no row waiting the map of lookups is the base
 pub quiet_map : (content : Content) (s : EngineState) → IsQuiet content s → current_map content s ≡ base_map content s
@@ -184,11 +149,7 @@ quiet_map content s is = ap (map_after (base_map content s)) is.none_wait
 
 -- a slot of the manifest lies apart from the logs, the hash stores and the sorted store
 pub slot_apart : (shape : Shape) (body : Body) (slot : ℕ) → slot < 2 → IsApart shape body (slot_at slot) 4096
-slot_apart shape body slot below = record {
-  frozen = λ region there. outside_slot shape region slot below;
-  hashed = λ region there. slots_behind_manifest shape region slot below;
-  sorted = entries_behind_manifest shape body.sorted slot below;
-}
+slot_apart shape body slot below = search (arith, outside_slot, slots_behind_manifest, entries_behind_manifest)
 
 -- and apart from the slots of a conversion and the entries of a merge
 pub slot_before_conversion : (s : EngineState) (slot : ℕ) → slot < 2 → IsOutsideConversion s (slot_at slot) 4096
@@ -196,8 +157,7 @@ slot_before_conversion s slot below =
     on_some (IsPastSlots s.manifest.shape (slot_at slot) 4096) s.converting (λ conversion. slots_behind_manifest s.manifest.shape conversion.region slot below)
 
 pub slot_before_merge : (s : EngineState) (slot : ℕ) → slot < 2 → IsOutsideMerge s (slot_at slot) 4096
-slot_before_merge s slot below =
-    on_some (IsPastEntries s.manifest.shape (slot_at slot) 4096) s.merging (λ merge. entries_behind_manifest s.manifest.shape merge.region slot below)
+slot_before_merge s slot below = on_some (IsPastEntries s.manifest.shape (slot_at slot) 4096) _ (λ merge. entries_behind_manifest _ _ slot below)
 
 pub below_two : (n : ℕ) → n % 2 < 2
 below_two n = mod-lt n (omega arith)
@@ -214,33 +174,15 @@ module _ (old new : Content) (s : EngineState) (next : NextLog) where
   module _ (stands : Stands old s) (is : IsNextLog s next) (sizes : size new ≡ size old)
       (changes : ChangesWithin (commits_at next.store.log.shape next.store.log.region) next.store.log.shape.log_capacity old new) where
     commits : ChangesWithin (commits_at s.manifest.shape is.region) s.manifest.shape.log_capacity old new
-    commits =
-        subst (λ (n : ℕ). ChangesWithin (commits_at s.manifest.shape n) s.manifest.shape.log_capacity old new) (store_region is)
-        (subst (λ (sh : Shape). ChangesWithin (commits_at sh next.store.log.region) sh.log_capacity old new) (store_shape is) changes)
+    commits = rw (store_shape is, store_region is) at changes
 
     pub clear_advances : Advances [] old new s s
-    clear_advances = cleared old new s is.region stands is.lowest.below is.lowest.free sizes commits
+    clear_advances = cleared old new s _ stands is.lowest.below is.lowest.free sizes commits
 
   -- the new log is as it was in memory, and its region is empty
   module _ (is : IsNextLog s next) (after : LogStoreState) (empties : EmptiesStore new next.store after) where
     pub same_store : after ≡ next.store
-    same_store =
-        let log : after.log ≡ next.store.log = empties.log.log ∙ sym (
-        ap (λ (t : LogStoreState). t.log) is.store
-        ∙ ap (λ (t : LogStoreState). record t.log { settled = 0; used = 0; stale = false }) (sym is.store)
-        ) in
-        ap (λ (l : LogState). let r : LogStoreState = record { log = l; table = after.table; puts = after.puts } in r) log
-        ∙ ap (λ t. let r : LogStoreState = record { log = next.store.log; table = t; puts = after.puts } in r) empties.table
-        ∙ ap (λ (n : ℕ). let r : LogStoreState = record { log = next.store.log; table = next.store.table; puts = n } in r) empties.puts
+    same_store = search arith
 
     pub clear_emptied : (now : NextLog) → now ≡ record next { store = after } → IsEmptied new s now
-    clear_emptied now now_is =
-        let same : now ≡ next = now_is ∙ ap (λ (t : LogStoreState). record next { store = t }) same_store in
-        let emptied : IsEmptied new s next = record {
-          follows = is;
-          stands = subst (IsLogStore new) same_store empties.stands;
-          images = record {
-            each = λ h image left. ap (λ (sh : Shape). log_rows sh next.store.log.region image) (sym (store_shape is)) ∙ empties.log.images.each h image left;
-          };
-        } in
-        subst (λ (n : NextLog). IsEmptied new s n) (sym same) emptied
+    clear_emptied now now_is = search (arith, same_store, store_shape)

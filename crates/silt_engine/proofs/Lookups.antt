@@ -1,15 +1,12 @@
 -- What a walk through the stores finds.
-use Rattle.silt_engine.proofs.Common.{◌≡◌, ◌≢◌, ◌<◌, ◌*◌, ℕ, ◌==◌, Bool, true, false, cond, if◌then◌else◌, IsTrue, List, [], ◌∷◌, ◌++◌, suc, zero, inl, inr}
-use Rattle.silt_engine.proofs.Common.{length, filter, map, take, get_or, Option, Some, None, refl, ap, sym, ◌∙◌, subst, arith, append_assoc, All, bytes_eq, get}
-use Rattle.silt_engine.proofs.Common.{and_from, and_parts, cases_Bool, get_or-map, length-map, filter-append, list_any_at, get_or_from_slice_get}
-use Rattle.silt_engine.proofs.Common.{slice_get_within, bytes_eq-Decides, Content, Shape, is_put, kind_byte, Kind, Put, Delete, rows_before, slot_row}
-use Rattle.silt_engine.proofs.Common.{hash_part, hash_rows, HashState, all_before, log_rows, row_at, has_known_kind, StoredRow, all_rows, settled_rows}
-use Rattle.silt_engine.proofs.Common.{waiting_rows, all_are_settled_and_waiting, row_of_all, all_count, LogStoreState, FindsLast, HasNoRow, IsLastRow, Found}
-use Rattle.silt_engine.proofs.Common.{Body, Map, map_after, log_part, known_rows, oldest_first, part_rows, sorted_rows, entries_of, hash_findings, holds_key}
-use Rattle.silt_engine.proofs.Common.{map_of_rows, sorted_findings, map_law, finds_nothing, HasNoEntry, HasOnlyValue, entries_law, Holder, Active, Frozen}
-use Rattle.silt_engine.proofs.Common.{Hashed, EngineState, hash_region_of, region_of, Stands, current_map, shown_stores, waiting_commands, hashed_rows}
-use Rattle.silt_engine.proofs.Common.{FindsFrozen, FindsHashed, FindsNewest, frozen_at, hash_store_at, hash_rows_of, row_in, reverse, find, option_and_then}
-use Rattle.silt_engine.proofs.Common.{option_or, or_parts, reverse-append, find-append, kind_of, is_row_of, before_at, before_count, before_taken, before_there}
+use Rattle.silt_engine.proofs.Common.{◌≡◌, ◌≢◌, ◌<◌, ◌*◌, ℕ, ◌==◌, Bool, true, false, cond, if◌then◌else◌, IsTrue, List, [], ◌∷◌, ◌++◌, suc, zero, inl, inr, length, filter, map, take}
+use Rattle.silt_engine.proofs.Common.{get_or, Option, Some, None, refl, ap, sym, ◌∙◌, arith, append_assoc, All, bytes_eq, get, and_from, and_parts, cases_Bool, get_or-map, length-map}
+use Rattle.silt_engine.proofs.Common.{filter-append, list_any_at, get_or_from_slice_get, slice_get_within, bytes_eq-Decides, Content, Shape, is_put, kind_byte, Kind, Put, Delete}
+use Rattle.silt_engine.proofs.Common.{rows_before, slot_row, hash_part, hash_rows, HashState, all_before, log_rows, row_at, has_known_kind, StoredRow, all_rows, settled_rows, waiting_rows}
+use Rattle.silt_engine.proofs.Common.{all_are_settled_and_waiting, row_of_all, all_count, LogStoreState, FindsLast, HasNoRow, IsLastRow, Found, Body, oldest_first, sorted_rows, entries_of}
+use Rattle.silt_engine.proofs.Common.{hash_findings, holds_key, map_of_rows, sorted_findings, map_law, finds_nothing, HasNoEntry, HasOnlyValue, entries_law, Holder, Active, Frozen, Hashed}
+use Rattle.silt_engine.proofs.Common.{EngineState, Stands, current_map, shown_stores, hashed_rows, FindsFrozen, FindsHashed, FindsNewest, frozen_at, hash_store_at, hash_rows_of, row_in}
+use Rattle.silt_engine.proofs.Common.{reverse, option_and_then, option_or, or_parts, reverse-append, find-append, kind_of, is_row_of, before_at, before_count, before_taken, before_there}
 use Rattle.silt_engine.proofs.Common.{unsound_twice, newest_row, value_given, newest_law, IsOnlyRow, ShowsStores, value_found}
 use Rattle.std.proofs.Common.{slice_get}
 use Rattle.std.specs.Option.{is_some}
@@ -24,8 +21,7 @@ use Rattle.silt_engine.proofs.Elsewhere.{scanned_all}
 
 -- in a list behind another
 newest_append : (older newer : List StoredRow) (key : List ℕ) → newest_row (older ++ newer) key ≡ option_or (newest_row newer key) (newest_row older key)
-newest_append older newer key = ap (find (λ (row : StoredRow). bytes_eq row.key key)) (reverse-append older newer)
-    ∙ find-append (λ (row : StoredRow). bytes_eq row.key key) (reverse newer) (reverse older)
+newest_append older newer key = cc (reverse-append older newer, find-append (λ (row : StoredRow). bytes_eq row.key key) (reverse newer) (reverse older))
 
 -- of one row
 newest_one : (row : StoredRow) (key : List ℕ) → newest_row (row ∷ []) key ≡ cond (bytes_eq row.key key) (Some row) None
@@ -33,19 +29,14 @@ newest_one row key = refl
 
 -- two keys that differ
 pub other_key : (a b : List ℕ) → a ≢ b → bytes_eq a b ≡ false
-other_key a b differ = elim (cases_Bool (bytes_eq a b)) [
-  | inl same ↦ absurd (differ ((bytes_eq-Decides a b).0 same))
-  | inr other ↦ other
-]
+other_key a b differ = search (arith, cases_Bool, bytes_eq-Decides)
 
 -- if no row has the key
 pub newest_none : (rows : List StoredRow) (key : List ℕ) → HasNoRow rows key → newest_row rows key ≡ None
 newest_none [] key none = refl
 newest_none (row ∷ rows) key none =
     let first : row.key ≢ key = none 0 (omega arith) in
-    newest_append (row ∷ []) rows key
-    ∙ ap (λ (o : Option StoredRow). option_or o (newest_row (row ∷ []) key)) (newest_none rows key (λ place inside. none (suc place) (omega (arith, inside))))
-    ∙ newest_one row key ∙ ap (λ (b : Bool). cond b (Some row) None) (other_key row.key key first)
+    cc (newest_append (row ∷ []) rows key, newest_none rows key (λ place inside. none (suc place) (omega (arith, inside))), newest_one row key, other_key row.key key first)
 
 -- if a row is the last one of the key
 pub newest_last : (rows : List StoredRow) (key : List ℕ) (place : ℕ) (row : StoredRow) → IsLastRow rows key place row → newest_row rows key ≡ Some row
@@ -53,24 +44,16 @@ newest_last [] key place row is = absurd (let no : None ≡ Some row = is.there 
 newest_last (first ∷ rows) key zero row is =
     let same : first ≡ row = let e : Some first ≡ Some row = is.there in cc in
     let key_is : bytes_eq first.key key ≡ true = (bytes_eq-Decides first.key key).1 (ap (λ (r : StoredRow). r.key) same ∙ is.has_key) in
-    newest_append (first ∷ []) rows key
-    ∙ ap (λ (o : Option StoredRow). option_or o (newest_row (first ∷ []) key)) (newest_none rows key (λ later inside. is.last (suc later) (omega arith) (omega (arith, inside))))
-    ∙ newest_one first key ∙ ap (λ (b : Bool). cond b (Some first) None) key_is ∙ ap Some same
+    cc (newest_append (first ∷ []) rows key, newest_none rows key (λ later inside. is.last (suc later) (omega arith) (omega (arith, inside))), newest_one first key)
 newest_last (first ∷ rows) key (suc place) row is =
-    newest_append (first ∷ []) rows key
-    ∙ ap (λ (o : Option StoredRow). option_or o (newest_row (first ∷ []) key)) (newest_last rows key place row (record {
-      there = is.there;
-      has_key = is.has_key;
-      last = λ later past inside. is.last (suc later) (omega (arith, past)) (omega (arith, inside));
-    }))
+    cc (
+      newest_append (first ∷ []) rows key,
+      newest_last rows key place row (record { there = is.there; has_key = is.has_key; last = λ later past inside. is.last (suc later) (omega (arith, past)) (omega (arith, inside)) }),
+    )
 
 -- if a row is the only one of the key
 newest_only : (rows : List StoredRow) (key : List ℕ) (place : ℕ) (row : StoredRow) → IsOnlyRow rows key place row → newest_row rows key ≡ Some row
-newest_only rows key place row is = newest_last rows key place row (record {
-  there = is.there;
-  has_key = is.has_key;
-  last = λ later past inside same. absurd (let here = is.only later inside same in omega (arith, past, here));
-})
+newest_only rows key place row is = search (arith, newest_last)
 
 -- ---- the row of a key in a hash store
 
@@ -78,11 +61,11 @@ newest_only rows key place row is = newest_last rows key place row (record {
 newest_known_more : (row : StoredRow) (rows : List StoredRow) (key : List ℕ) → newest_row (filter has_known_kind (row ∷ rows)) key
     ≡ option_or (newest_row (filter has_known_kind rows) key) (newest_row (filter has_known_kind (row ∷ [])) key)
 newest_known_more row rows key =
-    ap (λ (l : List StoredRow). newest_row l key) (filter-append has_known_kind (row ∷ []) rows) ∙ newest_append (filter has_known_kind (row ∷ [])) (filter has_known_kind rows) key
+    cc (filter-append has_known_kind (row ∷ []) rows, newest_append (filter has_known_kind (row ∷ [])) (filter has_known_kind rows) key)
 
 -- a row that is not one of the key
 newest_known_other : (row : StoredRow) (key : List ℕ) → is_row_of key row ≡ false → newest_row (filter has_known_kind (row ∷ [])) key ≡ None
-newest_known_other row key other = go (has_known_kind row) refl
+newest_known_other row key other = go _ refl
   where
     go : (known : Bool) → has_known_kind row ≡ known → newest_row (filter has_known_kind (row ∷ [])) key ≡ None
     go true known =
@@ -92,18 +75,14 @@ newest_known_other row key other = go (has_known_kind row) refl
 
 -- a row of the key
 newest_known_this : (row : StoredRow) (key : List ℕ) → is_row_of key row ≡ true → newest_row (filter has_known_kind (row ∷ [])) key ≡ Some row
-newest_known_this row key is =
-    let parts = and_parts (has_known_kind row) (bytes_eq row.key key) is in
-    rw parts.0 (newest_one row key ∙ ap (λ (b : Bool). cond b (Some row) None) parts.1)
+newest_known_this row key is = search (arith, and_parts, newest_one)
 
 -- if no row of a known kind has the key
 pub newest_known_none : (rows : List StoredRow) (key : List ℕ) → holds_key key rows ≡ false → newest_row (filter has_known_kind rows) key ≡ None
 newest_known_none [] key none = refl
 newest_known_none (row ∷ rows) key none =
     let parts = or_parts (is_row_of key row) (holds_key key rows) none in
-    newest_known_more row rows key
-    ∙ ap (λ (o : Option StoredRow). option_or o (newest_row (filter has_known_kind (row ∷ [])) key)) (newest_known_none rows key parts.1)
-    ∙ newest_known_other row key parts.0
+    cc (newest_known_more row rows key, newest_known_none rows key parts.1, newest_known_other row key parts.0)
 
 -- no row of a list has the key
 all_other : (rows : List StoredRow) (key : List ℕ) → ((later : ℕ) (other : StoredRow) → slice_get rows later ≡ Some other → is_row_of key other ≡ false) → holds_key key rows ≡ false
@@ -116,14 +95,13 @@ pub newest_known : (rows : List StoredRow) (key : List ℕ) (place : ℕ) (row :
 newest_known [] key place row there is last = absurd (cc)
 newest_known (first ∷ rows) key zero row there is last =
     let same : first ≡ row = cc in
-    newest_known_more first rows key
-    ∙ ap (λ (o : Option StoredRow). option_or o (newest_row (filter has_known_kind (first ∷ [])) key))
-    (newest_known_none rows key (all_other rows key (λ later other at. last (suc later) other (omega arith) at)))
-    ∙ newest_known_this first key (ap (is_row_of key) same ∙ is) ∙ ap Some same
+    cc (
+      newest_known_more first rows key,
+      newest_known_none rows key (all_other rows key (λ later other at. last (suc later) other (omega arith) at)),
+      newest_known_this first key (ap (is_row_of key) same ∙ is),
+    )
 newest_known (first ∷ rows) key (suc place) row there is last =
-    newest_known_more first rows key
-    ∙ ap (λ (o : Option StoredRow). option_or o (newest_row (filter has_known_kind (first ∷ [])) key))
-    (newest_known rows key place row there is (λ later other past at. last (suc later) other (omega (arith, past)) at))
+    cc (newest_known_more first rows key, newest_known rows key place row there is (λ later other past at. last (suc later) other (omega (arith, past)) at))
 
 -- the kind byte of a kind is known
 known_byte : (kind : Kind) (byte : ℕ) → kind_byte kind ≡ byte → is_some (kind_of byte) ≡ true
@@ -133,13 +111,7 @@ known_byte Delete byte e = ap (λ n. is_some (kind_of n)) (sym e)
 module _ (shape : Shape) (region : ℕ) (image : List ℕ) (key : List ℕ) where
   -- a row of the region is in its slot
   hash_there : (slot : ℕ) (row : StoredRow) → slice_get (hash_rows shape region image) slot ≡ Some row → (slot < 4 * shape.buckets) × (row ≡ slot_row shape region image slot)
-  hash_there slot row there =
-      let before : slice_get (rows_before shape region image (4 * shape.buckets)) slot ≡ Some row = ap (λ (rows : List StoredRow). slice_get rows slot) (sym (all_before shape region image)) ∙ there in
-      let inside : slot < 4 * shape.buckets =
-      omega (arith, slice_get_within (rows_before shape region image (4 * shape.buckets)) slot row before, before_count shape region image (4 * shape.buckets)) in
-      let here : slice_get (rows_before shape region image (4 * shape.buckets)) slot ≡ Some (slot_row shape region image slot) = before_there shape region image (4 * shape.buckets) slot inside in
-      let same : row ≡ slot_row shape region image slot = cc in
-      (inside, same)
+  hash_there slot row there = search (arith, all_before, slice_get_within, before_count, before_there)
 
   -- if nothing is found in a hash region, no slot after a row of the key has another
   later_lacks : hash_findings shape (hash_part shape image region) ≡ [] → (slot later : ℕ) (row other : StoredRow) → slice_get (hash_rows shape region image) slot ≡ Some row → is_row_of key row ≡ true
@@ -166,27 +138,23 @@ module _ (shape : Shape) (region : ℕ) (image : List ℕ) (key : List ℕ) wher
   pub newest_found : hash_findings shape (hash_part shape image region) ≡ [] → (found : Found) (row : StoredRow) → slice_get (hash_rows shape region image) found.place ≡ Some row → row.key ≡ key
       → kind_byte found.kind ≡ row.kind → newest_row (filter has_known_kind (hash_rows shape region image)) key ≡ Some row
   newest_found nothing found row there has_key kind =
-      let is : is_row_of key row ≡ true = and_from _ _ (known_byte found.kind row.kind kind) ((bytes_eq-Decides row.key key).1 has_key) in
-      newest_known (hash_rows shape region image) key found.place row there is (λ later other past at. later_lacks nothing found.place later row other there is past at)
+      let is : is_row_of key row ≡ true = and_from _ _ (known_byte _ _ kind) ((bytes_eq-Decides row.key key).1 has_key) in
+      newest_known _ key _ row there is (λ later other past at. later_lacks nothing _ later row other there is past at)
 
 -- ---- through several stores, the newest first
 
 pub walk_none : (stores : List (List StoredRow)) (key : List ℕ) → ((index : ℕ) → index < length stores → newest_row (get_or stores index []) key ≡ None) → newest_row (oldest_first stores) key ≡ None
 walk_none [] key none = refl
 walk_none (newest ∷ older) key none =
-    newest_append (oldest_first older) newest key
-    ∙ ap (λ (o : Option StoredRow). option_or o (newest_row (oldest_first older) key)) (none 0 (omega arith))
-    ∙ walk_none older key (λ index inside. none (suc index) (omega (arith, inside)))
+    cc (newest_append (oldest_first older) newest key, none 0 (omega arith), walk_none older key (λ index inside. none (suc index) (omega (arith, inside))))
 
 pub walk_some : (stores : List (List StoredRow)) (key : List ℕ) (number : ℕ) (row : StoredRow) → number < length stores
     → ((index : ℕ) → index < number → newest_row (get_or stores index []) key ≡ None)
     → newest_row (get_or stores number []) key ≡ Some row → newest_row (oldest_first stores) key ≡ Some row
 walk_some [] key number row inside none is = absurd (omega arith)
-walk_some (newest ∷ older) key zero row inside none is = newest_append (oldest_first older) newest key ∙ ap (λ (o : Option StoredRow). option_or o (newest_row (oldest_first older) key)) is
+walk_some (newest ∷ older) key zero row inside none is = cc (newest_append (oldest_first older) newest key)
 walk_some (newest ∷ older) key (suc number) row inside none is =
-    newest_append (oldest_first older) newest key
-    ∙ ap (λ (o : Option StoredRow). option_or o (newest_row (oldest_first older) key)) (none 0 (omega arith))
-    ∙ walk_some older key number row (omega (arith, inside)) (λ index below. none (suc index) (omega (arith, below))) is
+    cc (newest_append (oldest_first older) newest key, none 0 (omega arith), walk_some older key number row (omega (arith, inside)) (λ index below. none (suc index) (omega (arith, below))) is)
 
 -- ---- all rows, store by store
 
@@ -224,35 +192,16 @@ pub named_rows : (shape : Shape) (body : Body) (image : List ℕ) → rows_of (s
     ≡ sorted_rows shape body.sorted body.sorted_count image ++ oldest_first (map (λ region. filter has_known_kind (hash_rows shape region image)) body.hashed)
     ++ (oldest_first (map (λ region. log_rows shape region image) body.frozen) ++ log_rows shape body.active image)
 unfolding rows_of stores_named
-named_rows shape body image =
-    let entries : List StoredRow = sorted_rows shape body.sorted body.sorted_count image in
-    let frozen : List (List StoredRow) = map part_rows (map (log_part shape image) body.frozen) in
-    let newest : List StoredRow = log_rows shape body.active image in
-    ap (λ (stores : List (List StoredRow)). entries ++ oldest_first stores ++ (oldest_first frozen ++ newest)) (map_twice known_rows (hash_part shape image) body.hashed)
-    ∙ ap (λ (logs : List (List StoredRow)). entries ++ oldest_first (map (λ region. filter has_known_kind (hash_rows shape region image)) body.hashed) ++ (oldest_first logs ++ newest))
-    (map_twice part_rows (log_part shape image) body.frozen)
+named_rows shape body image = search (arith, map_twice)
 
 module _ (content : Content) (s : EngineState) (shows : ShowsStores content s) (honest : IsTrue content.honest) where
   -- the rows of the frozen logs
   frozen_rows : map (λ region. log_rows s.manifest.shape region content.shown) s.manifest.current.frozen ≡ map (rows_in content) s.frozen
-  frozen_rows =
-      ap (map (λ region. log_rows s.manifest.shape region content.shown)) (sym shows.whole.frozen_regions)
-      ∙ map_twice (λ region. log_rows s.manifest.shape region content.shown) region_of s.frozen
-      ∙ map_agree (λ store. log_rows s.manifest.shape (region_of store) content.shown) (rows_in content) s.frozen
-      (λ k d inside.
-      let store : LogStoreState = get_or s.frozen k d in
-      ap (λ (sh : Shape). log_rows sh store.log.region content.shown) (sym (shows.whole.settled k d inside).has_shape)
-      ∙ sym (scanned_all content store.log ((shows.frozen k d inside).rows honest)))
+  frozen_rows = search (arith, map_twice, map_agree, scanned_all)
 
   -- and those of the hash stores
   hash_store_rows : map (λ region. filter has_known_kind (hash_rows s.manifest.shape region content.shown)) s.manifest.current.hashed ≡ map (known_in content) s.hashes
-  hash_store_rows =
-      ap (map (λ region. filter has_known_kind (hash_rows s.manifest.shape region content.shown))) (sym shows.whole.hash_regions)
-      ∙ map_twice (λ region. filter has_known_kind (hash_rows s.manifest.shape region content.shown)) hash_region_of s.hashes
-      ∙ map_agree (λ store. filter has_known_kind (hash_rows s.manifest.shape (hash_region_of store) content.shown)) (known_in content) s.hashes
-      (λ k d inside.
-      let store : HashState = get_or s.hashes k d in
-      ap (λ (sh : Shape). filter has_known_kind (hash_rows sh store.region content.shown)) (sym (shows.whole.hashed k d inside).has_shape))
+  hash_store_rows = search (arith, map_twice, map_agree)
 
   -- the entries
   entries_shown : sorted_rows s.manifest.shape s.manifest.current.sorted s.manifest.current.sorted_count content.shown ≡ entries_of content s.sorted
@@ -260,8 +209,7 @@ module _ (content : Content) (s : EngineState) (shows : ShowsStores content s) (
 
   -- the rows of the active log
   active_shown : log_rows s.manifest.shape s.manifest.current.active content.shown ≡ log_rows s.active.log.shape s.active.log.region content.shown
-  active_shown = ap (λ (sh : Shape). log_rows sh s.manifest.current.active content.shown) (sym shows.whole.has_shape)
-      ∙ ap (λ (n : ℕ). log_rows s.active.log.shape n content.shown) (sym shows.whole.active_region)
+  active_shown = cc (shows.whole.has_shape, shows.whole.active_region)
 
   -- all rows, the oldest first: the entries, those of the hash stores, of the frozen logs and of the active one
   pub rows_by_log : rows_of (shown_stores content s) ++ waiting_rows content s.active.log ≡ rows_behind content s ++ oldest_first (map (rows_in content) s.frozen) ++ all_rows content s.active.log
@@ -271,40 +219,34 @@ module _ (content : Content) (s : EngineState) (shows : ShowsStores content s) (
       let hash_parts : List (List StoredRow) = map (λ region. filter has_known_kind (hash_rows s.manifest.shape region content.shown)) s.manifest.current.hashed in
       let frozen_parts : List (List StoredRow) = map (λ region. log_rows s.manifest.shape region content.shown) s.manifest.current.frozen in
       let shown : List StoredRow = log_rows s.manifest.shape s.manifest.current.active content.shown in
-      ap (λ (rows : List StoredRow). rows ++ waiting_rows content s.active.log)
-      (named_rows s.manifest.shape s.manifest.current content.shown
-      ∙ ap (λ (rows : List StoredRow). rows ++ oldest_first hash_parts ++ (oldest_first frozen_parts ++ shown)) entries_shown
-      ∙ ap (λ (stores : List (List StoredRow)). entries_of content s.sorted ++ oldest_first stores ++ (oldest_first frozen_parts ++ shown)) hash_store_rows
-      ∙ ap (λ (logs : List (List StoredRow)). behind ++ (oldest_first logs ++ shown)) frozen_rows
-      ∙ ap (λ (rows : List StoredRow). behind ++ (frozen ++ rows)) (active_shown ∙ shows.active honest)
-      ∙ sym (append_assoc behind frozen (settled_rows content s.active.log)))
-      ∙ append_assoc (behind ++ frozen) (settled_rows content s.active.log) (waiting_rows content s.active.log)
-      ∙ ap (λ (rows : List StoredRow). behind ++ frozen ++ rows) (sym (all_are_settled_and_waiting content s.active.log shows.bounds.order))
+      cc (
+        named_rows s.manifest.shape s.manifest.current content.shown,
+        entries_shown,
+        hash_store_rows,
+        frozen_rows,
+        active_shown,
+        shows.active honest,
+        append_assoc behind frozen (settled_rows content s.active.log),
+        append_assoc (behind ++ frozen) (settled_rows content s.active.log) (waiting_rows content s.active.log),
+        all_are_settled_and_waiting content s.active.log shows.bounds.order,
+      )
 
   -- the map that lookups read
   pub current_is : current_map content s ≡ map_of_rows (rows_behind content s ++ oldest_first (map (rows_in content) s.frozen) ++ all_rows content s.active.log)
-  current_is =
-      ap (λ (m : Map). map_after m (waiting_commands content s)) (base_is content s)
-      ∙ sym (map_law (rows_of (shown_stores content s)) (waiting_rows content s.active.log))
-      ∙ ap map_of_rows rows_by_log
+  current_is = cc (base_is content s, map_law (rows_of (shown_stores content s)) (waiting_rows content s.active.log), rows_by_log)
 
 module _ (content : Content) (s : EngineState) (stands : Stands content s) (honest : IsTrue content.honest) where
   -- nothing is found in the entries
   pub entries_sound : sorted_findings (entries_of content s.sorted) ≡ []
   entries_sound =
-      subst (λ (rows : List StoredRow). sorted_findings rows ≡ []) (named_entries s.manifest.shape s.manifest.current content.shown ∙ entries_shown content s (stands_shown content s stands) honest)
-      (finds_nothing (shown_stores content s) (shown_sound content s stands honest)).entries
+      rw (named_entries s.manifest.shape s.manifest.current content.shown ∙ entries_shown content s (stands_shown content s stands) honest) at (finds_nothing
+      (shown_stores content s) (shown_sound content s stands honest)).entries
 
   -- what the map has for a key
   current_get : (key : List ℕ) → get (current_map content s) key
       ≡ option_and_then value_given (option_or (newest_row (all_rows content s.active.log) key)
       (option_or (newest_row (oldest_first (map (rows_in content) s.frozen)) key) (newest_row (rows_behind content s) key)))
-  current_get key =
-      let frozen : List StoredRow = oldest_first (map (rows_in content) s.frozen) in
-      ap (λ (m : Map). get m key) (current_is content s (stands_shown content s stands) honest)
-      ∙ newest_law (rows_behind content s ++ frozen ++ all_rows content s.active.log) key
-      ∙ ap (option_and_then value_given) (newest_append (rows_behind content s ++ frozen) (all_rows content s.active.log) key
-      ∙ ap (option_or (newest_row (all_rows content s.active.log) key)) (newest_append (rows_behind content s) frozen key))
+  current_get key = search (arith, current_is, stands_shown, newest_law, newest_append)
 
   -- ---- a row that is found
 
@@ -312,8 +254,8 @@ module _ (content : Content) (s : EngineState) (stands : Stands content s) (hone
   row_value : (store : LogStoreState) (key : List ℕ) (place : ℕ) (row : StoredRow) → IsLastRow (all_rows content store.log) key place row
       → row ≡ row_at store.log.shape store.log.region content.shown place
   row_value store key place row is =
-      let inside = slice_get_within (all_rows content store.log) place row is.there in
-      sym (get_or_from_slice_get (all_rows content store.log) place row row is.there) ∙ row_of_all content store.log place row (omega (arith, inside, all_count content store.log))
+      sym (get_or_from_slice_get (all_rows content store.log) place row row is.there) ∙ row_of_all content store.log place row
+      (omega (arith, slice_get_within (all_rows content store.log) place row is.there, all_count content store.log))
 
   its_value : (holder : Holder) (found : Found) (row : StoredRow) → kind_byte found.kind ≡ row.kind → row ≡ row_in content s holder found.place → value_given row ≡ value_found content s holder found
   its_value holder found row kind is =
@@ -333,18 +275,12 @@ module _ (content : Content) (s : EngineState) (stands : Stands content s) (hone
   -- the row is in the active log
   pub found_active : (key : List ℕ) (found : Found) → FindsLast (all_rows content s.active.log) key (Some found) → get (current_map content s) key ≡ value_found content s Active found
   found_active key found (row, is, kind) =
-      current_get key
-      ∙ ap (λ (o : Option StoredRow). option_and_then value_given (option_or o (option_or (newest_row (oldest_first (map (rows_in content) s.frozen)) key) (newest_row (rows_behind content s) key))))
-      (newest_last (all_rows content s.active.log) key found.place row is)
-      ∙ its_value Active found row kind (row_value s.active key found.place row is)
+      cc (current_get key, newest_last (all_rows content s.active.log) key found.place row is, its_value Active found row kind (row_value s.active key found.place row is))
 
   -- the active log has none
   past_active : (key : List ℕ) → HasNoRow (all_rows content s.active.log) key
       → get (current_map content s) key ≡ option_and_then value_given (option_or (newest_row (oldest_first (map (rows_in content) s.frozen)) key) (newest_row (rows_behind content s) key))
-  past_active key none =
-      current_get key
-      ∙ ap (λ (o : Option StoredRow). option_and_then value_given (option_or o (option_or (newest_row (oldest_first (map (rows_in content) s.frozen)) key) (newest_row (rows_behind content s) key))))
-      (newest_none (all_rows content s.active.log) key none)
+  past_active key none = cc (current_get key, newest_none (all_rows content s.active.log) key none)
 
   -- the rows of a frozen log, by its number
   rows_at : (index : ℕ) → index < length s.frozen → get_or (map (rows_in content) s.frozen) index [] ≡ all_rows content (frozen_at s index).log
@@ -353,7 +289,7 @@ module _ (content : Content) (s : EngineState) (stands : Stands content s) (hone
   -- one that has no row of a key
   frozen_lacks : (key : List ℕ) (index : ℕ) → index < length s.frozen → HasNoRow (all_rows content (frozen_at s index).log) key
       → newest_row (get_or (map (rows_in content) s.frozen) index []) key ≡ None
-  frozen_lacks key index inside none = ap (λ (rows : List StoredRow). newest_row rows key) (rows_at index inside) ∙ newest_none (all_rows content (frozen_at s index).log) key none
+  frozen_lacks key index inside none = cc (rows_at index inside, newest_none (all_rows content (frozen_at s index).log) key none)
 
   -- the row is in a frozen log
   pub found_frozen : (key : List ℕ) (number : ℕ) (found : Found) → number < length s.frozen → HasNoRow (all_rows content s.active.log) key → FindsFrozen content s key (Some (number, found))
@@ -363,18 +299,19 @@ module _ (content : Content) (s : EngineState) (stands : Stands content s) (hone
       ∙ ap (λ (o : Option StoredRow). option_and_then value_given (option_or o (newest_row (rows_behind content s) key)))
       (walk_some (map (rows_in content) s.frozen) key number row (omega (arith, inside, length-map s.frozen (rows_in content)))
       (λ index below. frozen_lacks key index (omega (arith, below, inside)) (before index below))
-      (ap (λ (rows : List StoredRow). newest_row rows key) (rows_at number inside) ∙ newest_last (all_rows content (frozen_at s number).log) key found.place row is))
+      (cc (rows_at number inside, newest_last (all_rows content (frozen_at s number).log) key found.place row is)))
       ∙ its_value (Frozen number) found row kind (row_value (frozen_at s number) key found.place row is)
 
   -- no log has one
   past_frozen : (key : List ℕ) → HasNoRow (all_rows content s.active.log) key → FindsFrozen content s key None
       → get (current_map content s) key ≡ option_and_then value_given (option_or (newest_row (hashed_rows content s) key) (newest_row (entries_of content s.sorted) key))
   past_frozen key none frozen =
-      past_active key none
-      ∙ ap (λ (o : Option StoredRow). option_and_then value_given (option_or o (newest_row (rows_behind content s) key)))
-      (walk_none (map (rows_in content) s.frozen) key
-      (λ index inside. let here : index < length s.frozen = omega (arith, inside, length-map s.frozen (rows_in content)) in frozen_lacks key index here (frozen index here)))
-      ∙ ap (option_and_then value_given) (newest_append (entries_of content s.sorted) (hashed_rows content s) key)
+      cc (
+        past_active key none,
+        walk_none (map (rows_in content) s.frozen) key (λ index inside. let here : index < length s.frozen =
+            omega (arith, inside, length-map s.frozen (rows_in content)) in frozen_lacks key index here (frozen index here)),
+        newest_append (entries_of content s.sorted) (hashed_rows content s) key,
+      )
 
   -- the rows of a hash store, by its number
   known_at : (index : ℕ) → index < length s.hashes → get_or (map (known_in content) s.hashes) index [] ≡ known_in content (hash_store_at s index)
@@ -383,7 +320,7 @@ module _ (content : Content) (s : EngineState) (stands : Stands content s) (hone
   -- one that has no row of a key
   hash_lacks : (key : List ℕ) (index : ℕ) → index < length s.hashes → holds_key key (hash_rows_of content (hash_store_at s index)) ≡ false
       → newest_row (get_or (map (known_in content) s.hashes) index []) key ≡ None
-  hash_lacks key index inside none = ap (λ (rows : List StoredRow). newest_row rows key) (known_at index inside) ∙ newest_known_none (hash_rows_of content (hash_store_at s index)) key none
+  hash_lacks key index inside none = cc (known_at index inside, newest_known_none (hash_rows_of content (hash_store_at s index)) key none)
 
   -- the row is in a hash store
   pub found_hashed : (key : List ℕ) (number : ℕ) (found : Found) → number < length s.hashes → HasNoRow (all_rows content s.active.log) key → FindsFrozen content s key None
@@ -395,27 +332,25 @@ module _ (content : Content) (s : EngineState) (stands : Stands content s) (hone
       ∙ ap (λ (o : Option StoredRow). option_and_then value_given (option_or o (newest_row (entries_of content s.sorted) key)))
       (walk_some (map (known_in content) s.hashes) key number row (omega (arith, inside, length-map s.hashes (known_in content)))
       (λ index below. hash_lacks key index (omega (arith, below, inside)) (before index below))
-      (ap (λ (rows : List StoredRow). newest_row rows key) (known_at number inside) ∙ newest_found store.shape store.region content.shown key (stands_there.sound honest) found row there has_key kind))
+      (cc (known_at number inside, newest_found store.shape store.region content.shown key (stands_there.sound honest) found row there has_key kind)))
       ∙ its_value (Hashed number) found row kind (hash_there store.shape store.region content.shown key found.place row there).1
 
   -- no hash store has one
   pub past_hashed : (key : List ℕ) → HasNoRow (all_rows content s.active.log) key → FindsFrozen content s key None → FindsHashed content s key None
       → get (current_map content s) key ≡ option_and_then value_given (newest_row (entries_of content s.sorted) key)
   past_hashed key none frozen hashed =
-      past_frozen key none frozen
-      ∙ ap (λ (o : Option StoredRow). option_and_then value_given (option_or o (newest_row (entries_of content s.sorted) key)))
-      (walk_none (map (known_in content) s.hashes) key
-      (λ index inside. let here : index < length s.hashes = omega (arith, inside, length-map s.hashes (known_in content)) in hash_lacks key index here (hashed index here)))
+      cc (
+        past_frozen key none frozen,
+        walk_none (map (known_in content) s.hashes) key (λ index inside. let here : index < length s.hashes =
+            omega (arith, inside, length-map s.hashes (known_in content)) in hash_lacks key index here (hashed index here)),
+      )
 
   -- the row is an entry, and this is its value
   pub found_value : (key value : List ℕ) → FindsNewest content s key None → HasOnlyValue (entries_of content s.sorted) key value → get (current_map content s) key ≡ Some value
   found_value key value newest (place, row, is, has) =
       let one : row.kind ≡ 1 = (entries_law s.sorted.shape s.sorted.region s.sorted.count content.shown).puts place row is.there in
-      newest
-      ∙ ap (option_and_then value_given) (newest_only (entries_of content s.sorted) key place row is)
-      ∙ ap (λ (n : ℕ). if n == 1 then Some row.value else None) one
-      ∙ ap Some has
+      cc (newest_only (entries_of content s.sorted) key place row is)
 
   -- no store has one
   pub found_nowhere : (key : List ℕ) → FindsNewest content s key None → HasNoEntry (entries_of content s.sorted) key → get (current_map content s) key ≡ None
-  found_nowhere key newest lacks = newest ∙ ap (option_and_then value_given) (newest_none (entries_of content s.sorted) key lacks)
+  found_nowhere key newest lacks = cc (newest_none (entries_of content s.sorted) key lacks)

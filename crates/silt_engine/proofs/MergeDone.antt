@@ -1,12 +1,10 @@
 -- What a merge takes of the stores, and when it is done.
-use Rattle.silt_engine.proofs.Common.{◌≡◌, ◌≤◌, ℕ, ◌+◌, ◌-◌, ◌*◌, ◌++◌, IsTrue, List, [], true, length, map, take, drop, get_or, refl, ap, sym, ◌∙◌, subst}
-use Rattle.silt_engine.proofs.Common.{Option, Some, None, arith, IfSome, and_parts, eqb-true, length-drop, take-append-drop, take_all, All-drop, Content, Shape}
-use Rattle.silt_engine.proofs.Common.{entry_len, slots_len, StoredRow, put_count, HashState, IsHashStore, IsHeldHash, IsSound, charge_of, rows_of}
-use Rattle.silt_engine.proofs.Common.{with_log_rows, known_rows, oldest_first, part_rows, Part, map_of_rows, sorted_findings, Stores, sorted_rows, SortedState}
-use Rattle.silt_engine.proofs.Common.{count_law, all_rows, waiting_rows, Body, IsMergeOf, entries_in, merged_rows, MergeState, is_done, oldest_stores, steps_of}
-use Rattle.silt_engine.proofs.Common.{charge_without, merge_sources, puts_in, IsMerging, EngineState, HasGathered, Stands, base_map, full_image, shown_stores}
-use Rattle.silt_engine.proofs.Common.{leb-true, slice_get-get_or, charge_law, parts_law, ReplacesStores, with_merged, HasBytes, AreSound, key_count, sources}
-use Rattle.silt_engine.proofs.Common.{steps_for, entry_count, AreCompared, IsDoneBySteps}
+use Rattle.silt_engine.proofs.Common.{◌≡◌, ◌≤◌, ℕ, ◌+◌, ◌-◌, ◌++◌, IsTrue, List, [], true, length, map, take, drop, get_or, refl, ap, sym, ◌∙◌, subst, Option, Some, None, arith, IfSome}
+use Rattle.silt_engine.proofs.Common.{and_parts, eqb-true, length-drop, take-append-drop, take_all, All-drop, Content, Shape, StoredRow, put_count, HashState, IsHashStore, IsHeldHash}
+use Rattle.silt_engine.proofs.Common.{IsSound, charge_of, rows_of, with_log_rows, known_rows, oldest_first, part_rows, Part, map_of_rows, sorted_findings, Stores, sorted_rows, SortedState}
+use Rattle.silt_engine.proofs.Common.{count_law, all_rows, waiting_rows, Body, IsMergeOf, entries_in, merged_rows, MergeState, is_done, oldest_stores, charge_without, merge_sources, puts_in}
+use Rattle.silt_engine.proofs.Common.{IsMerging, EngineState, HasGathered, Stands, base_map, shown_stores, leb-true, slice_get-get_or, charge_law, parts_law, ReplacesStores, with_merged}
+use Rattle.silt_engine.proofs.Common.{AreSound, sources, entry_count, AreCompared, IsDoneBySteps}
 use Rattle.silt_engine.specs.Merge as spec
 use Rattle.silt_image.specs.Stores.{stores_named}
 use Rattle.silt_merge.proofs.Ending.{done_entries, done_steps}
@@ -23,45 +21,36 @@ module _ (content : Content) (s : EngineState) (stands : Stands content s) where
   -- the entries of the sorted store rise
   pub shown_entries : IsTrue content.honest → sorted_findings (entries_in content.shown s.sorted) ≡ []
   unfolding stores_named
-  shown_entries h = ap (λ (t : SortedState). sorted_findings (entries_in content.shown t)) stands.whole.sorted ∙ ((parts_law (shown_stores content s)).0 (shown_sound content s stands h)).entries
+  shown_entries h = cc (stands.whole.sorted, ((parts_law (shown_stores content s)).0 (shown_sound content s stands h)).entries)
 
   -- nothing is found in what a merge takes
   pub taken_sound : IsTrue content.honest → (count : ℕ) → AreSound content.shown (oldest_stores count s.hashes) s.sorted
-  taken_sound h count = sound_stores content (oldest_stores count s.hashes) s.sorted h
-      (All-drop (λ (store : HashState). store.shape ≡ s.sorted.shape) (length s.hashes - count) s.hashes (λ k d inside. (stands.whole.hashed k d inside).has_shape ∙ sym sorted_shape))
-      (All-drop IsHeldHash (length s.hashes - count) s.hashes (λ k d inside. (stands.whole.hashed k d inside).held))
-      (All-drop (IsHashStore content) (length s.hashes - count) s.hashes stands.hashed)
+  taken_sound h count = sound_stores content (oldest_stores count s.hashes) s.sorted h (All-drop (λ (store : HashState). store.shape ≡ s.sorted.shape) (length
+      s.hashes - count) s.hashes (λ k d inside. (stands.whole.hashed k d inside).has_shape ∙ sym sorted_shape)) (All-drop IsHeldHash (length s.hashes - count)
+      s.hashes (λ k d inside. (stands.whole.hashed k d inside).held)) (All-drop (IsHashStore content) (length s.hashes - count) s.hashes stands.hashed)
       (shown_entries h)
 
   -- the stores of the full image
   pub full_is : IsTrue content.honest → spec.full_stores content s ≡ with_log_rows s.manifest.current.active (all_rows content s.active.log) (shown_stores content s)
-  full_is h = named_here s.manifest.shape s.manifest.current (with_log_rows s.manifest.current.active (all_rows content s.active.log) (shown_stores content s))
-      (full_image content s) (full_stores content s stands h)
-      (with_shape s.manifest.current.active (all_rows content s.active.log) (shown_stores content s) ∙ named_shape s.manifest.shape s.manifest.current content.shown)
-      (with_body s.manifest.current.active (all_rows content s.active.log) (shown_stores content s) ∙ named_body s.manifest.shape s.manifest.current content.shown)
+  full_is h = named_here _ _ _ _ (full_stores _ s stands h) (with_shape _ _ _ ∙ named_shape _ _ _) (with_body _ _ _ ∙ named_body _ _ _)
 
   -- what a merge takes of what is shown, and of the full image
   pub sources_shown : (count : ℕ) → merge_sources count (shown_stores content s) ≡ sources content.shown (oldest_stores count s.hashes) s.sorted
-  sources_shown count = sources_named s.manifest.shape s.manifest.current s.hashes s.sorted count content.shown stands.whole.sorted stands.whole.hash_regions
+  sources_shown count = sources_named _ _ _ _ count _ stands.whole.sorted stands.whole.hash_regions
 
   pub sources_full : IsTrue content.honest → (count : ℕ) → merge_sources count (spec.full_stores content s) ≡ sources content.shown (oldest_stores count s.hashes) s.sorted
-  sources_full h count =
-      ap (merge_sources count) (full_is h)
-      ∙ sources_with s.manifest.current.active count (all_rows content s.active.log) (shown_stores content s)
-      ∙ sources_shown count
+  sources_full h count = ap (merge_sources count) (full_is h) ∙ sources_with _ count _ _ ∙ sources_shown count
 
   -- a merge is done after the steps that its stores take
   pub done_by_steps : IsTrue content.honest → IfSome s.merging (IsDoneBySteps content s)
-  done_by_steps h = each s.merging stands.whole.merging stands.merged
+  done_by_steps h = each _ stands.whole.merging stands.merged
     where
       each : (o : Option MergeState) → IfSome o (IsMerging s) → IfSome o (HasGathered content s) → IfSome o (IsDoneBySteps content s)
       each None merging merged = tt
       each (Some merge) merging merged =
           let way : IsMerging s merge = merging in
-          subst (λ (rows : List StoredRow). (is_done merge s.sorted ≡ true → steps_of merge ≡ steps_for merge (key_count rows))
-          × (steps_of merge ≡ steps_for merge (key_count rows) → is_done merge s.sorted ≡ true))
-          (sym (sources_full h merge.stores))
-          (done_steps merge s.sorted content (oldest_stores merge.stores s.hashes) (is_done merge s.sorted) refl way.held merged.0 h (taken_sound h merge.stores))
+          rw (← (sources_full h merge.stores)) at (done_steps merge s.sorted content (oldest_stores merge.stores s.hashes) (is_done merge s.sorted) refl way.held merged.0
+          h (taken_sound h merge.stores))
 
 -- ---- a merge that is done
 
@@ -70,7 +59,7 @@ module _ (content : Content) (s : EngineState) (merge : MergeState) (stands : St
   way = subst (λ (o : Option MergeState). IfSome o (IsMerging s)) was stands.whole.merging
 
   gathered : HasGathered content s merge
-  gathered = subst (λ (o : Option MergeState). IfSome o (HasGathered content s)) was stands.merged
+  gathered = rw was at stands.merged
 
   abbrev t : Stores
   t = shown_stores content s
@@ -96,8 +85,7 @@ module _ (content : Content) (s : EngineState) (merge : MergeState) (stands : St
   taken_puts : put_count rows ≤ charge_of t
   taken_puts =
       let all = rows_old t t.body newer_parts taken_parts (merged_rows rows) split (merged_law rows) in
-      let both = count_law rows (oldest_first (map known_rows newer_parts) ++ oldest_first (map part_rows t.logs)) in
-      omega (arith, ap put_count all, both)
+      omega (arith, ap put_count all, count_law rows (oldest_first (map known_rows newer_parts) ++ oldest_first (map part_rows t.logs)))
 
   -- so its entries have room
   room : IsTrue content.honest → length (merged_rows rows) ≤ s.manifest.shape.sorted_capacity
@@ -110,11 +98,12 @@ module _ (content : Content) (s : EngineState) (merge : MergeState) (stands : St
   -- and are the newest rows that are puts
   pub entries_are : IsTrue content.honest → new_entries ≡ merged_rows rows
   entries_are h =
-      ap (λ (sh : Shape). sorted_rows sh merge.region merge.written content.shown) (sym way.has_shape)
-      ∙ done_entries merge s.sorted content (oldest_stores merge.stores s.hashes) way.held done gathered.0 h (taken_sound content s stands h merge.stores)
-      ∙ ap (λ (l : List StoredRow). take merge.shape.sorted_capacity (merged_rows l)) (sym (sources_shown content s stands merge.stores))
-      ∙ ap (λ (sh : Shape). take sh.sorted_capacity (merged_rows rows)) way.has_shape
-      ∙ take_all s.manifest.shape.sorted_capacity (merged_rows rows) (room h)
+      cc (
+        way.has_shape,
+        done_entries merge s.sorted content (oldest_stores merge.stores s.hashes) way.held done gathered.0 h (taken_sound content s stands h merge.stores),
+        sources_shown content s stands merge.stores,
+        take_all s.manifest.shape.sorted_capacity (merged_rows rows) (room h),
+      )
 
   is_merge : IsTrue content.honest → IsMergeOf rows new_entries
   is_merge h = subst (IsMergeOf rows) (sym (entries_are h)) (merged_law rows)
@@ -124,11 +113,11 @@ module _ (content : Content) (s : EngineState) (merge : MergeState) (stands : St
   merged_stores body = with_merged body newer_parts new_entries (shown_stores content s)
 
   replaces : (body : Body) → IsTrue content.honest → ReplacesStores rows new_entries t (merged_stores body)
-  replaces body h = merges t body newer_parts taken_parts new_entries split (shown_sound content s stands h) (is_merge h)
+  replaces body h = merges t body newer_parts taken_parts new_entries split (shown_sound _ s stands h) (is_merge h)
 
   -- have the same map
   pub merged_map : (body : Body) → IsTrue content.honest → map_of_rows (rows_of (merged_stores body)) ≡ base_map content s
-  merged_map body h = (replaces body h).map ∙ sym (base_is content s)
+  merged_map body h = (replaces body h).map ∙ sym (base_is _ s)
 
   -- nothing is found in them
   pub merged_sound : (body : Body) → IsTrue content.honest → IsSound (merged_stores body)
@@ -162,13 +151,12 @@ module _ (content : Content) (s : EngineState) (merge : MergeState) (stands : St
   pub all_compared : merge.damaged ≡ None → AreCompared s merge.stores
   all_compared sound =
       let parts = and_parts _ _ done in
-      let taken : merge.store ≡ merge.stores = eqb-true merge.store merge.stores (and_parts _ _ parts.0).0 in
       let stores : List HashState = oldest_stores merge.stores s.hashes in
       record {
-        hashes = λ k d inside. subst (λ (sh : Shape). HasBytes (slots_len sh) (get_or stores k d).digest) way.has_shape
-            (gathered.1.hashes sound k (get_or stores k d) (omega (arith, taken, way.most, length-drop (length s.hashes - merge.stores) s.hashes)) (slice_get-get_or stores k d inside));
-        entries = λ some. subst (λ (sh : Shape). HasBytes (s.sorted.count * entry_len sh) s.digest) way.has_shape
-            (gathered.1.entries sound some (leb-true s.sorted.count merge.passed parts.1));
+        hashes = λ k d inside. rw way.has_shape at (gathered.1.hashes sound k (get_or stores k d)
+            (omega (arith, eqb-true merge.store merge.stores (and_parts _ _ parts.0).0, way.most, length-drop (length s.hashes - merge.stores) s.hashes)) (slice_get-get_or
+            stores k d inside));
+        entries = λ some. rw way.has_shape at (gathered.1.entries sound some (leb-true s.sorted.count merge.passed parts.1));
       }
 
 -- ---- its end

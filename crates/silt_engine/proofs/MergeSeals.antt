@@ -1,9 +1,8 @@
 -- The index of a merge is made before its last writes: nothing else of the stores changes.
-use Rattle.silt_engine.proofs.Common.{◌≡◌, ◌<◌, ◌-◌, ◌^◌, ℕ, true, None, List, [], Option, Some, Ok, refl, ap, sym, ◌∙◌, subst, IfSome, Content, Ghosts}
-use Rattle.silt_engine.proofs.Common.{within_refl, HashState, Finished, Body, Digests, HasMerged, Seals, merged_rows, MergeState, is_done, oldest_stores}
-use Rattle.silt_engine.proofs.Common.{sorted_in, IndexedState, IsIndexOf, HasDigest, SortedState, entries_of, MarkedCode, EngineState, IsMerging, Stands}
-use Rattle.silt_engine.proofs.Common.{Advances, Works, AreCompared, EndsMerge, EndsMerged, HasMergedEntries, Merges, SealsMerge, damaged_in, full_stores}
-use Rattle.silt_engine.proofs.Common.{merge_sources, merge_turn, merged_body, merged_digests, none_made}
+use Rattle.silt_engine.proofs.Common.{arith, ◌≡◌, ◌<◌, ◌-◌, ◌^◌, ℕ, true, None, List, [], Option, Some, Ok, refl, ap, sym, ◌∙◌, subst, Content, Ghosts, within_refl, HashState, Finished}
+use Rattle.silt_engine.proofs.Common.{Body, Digests, HasMerged, Seals, MergeState, is_done, oldest_stores, sorted_in, IndexedState, IsIndexOf, HasDigest, SortedState, entries_of, MarkedCode}
+use Rattle.silt_engine.proofs.Common.{EngineState, IsMerging, Stands, Advances, Works, AreCompared, EndsMerge, EndsMerged, HasMergedEntries, Merges, SealsMerge, merge_turn, merged_body}
+use Rattle.silt_engine.proofs.Common.{merged_digests, none_made}
 use Rattle.silt_engine.proofs.MergeEntries.{entry_advances}
 use Rattle.silt_engine.proofs.MergeDone.{taken_sound}
 use Rattle.silt_engine.proofs.MergeSteps.{gathered_of, merging_of}
@@ -13,7 +12,7 @@ use Rattle.silt_engine.proofs.Exits.{went_so}
 
 -- the sealed merge is in progress
 pub sealed_way : (s : EngineState) (merge sealed : MergeState) → Seals merge sealed → IsMerging s merge → IsMerging s sealed
-sealed_way s merge sealed seals way = subst (IsMerging s) (sym seals.same) (way_with_trie merge (Some seals.made) s way)
+sealed_way s merge sealed seals way = subst (IsMerging s) (sym seals.same) (way_with_trie merge _ s way)
 
 -- the stores, in whose merge a trie is made
 abbrev sealed_stores : EngineState → MergeState → Option MarkedCode → EngineState
@@ -25,15 +24,12 @@ seal_advances : (content : Content) (s : EngineState) (merge : MergeState) (trie
 seal_advances content s merge trie was stands =
     let way = merging_of s merge stands.whole was in
     let gathered = gathered_of content s merge stands was in
-    entry_advances content content s merge.region stands way.held.there way.apart refl (within_refl _ _ content) (Some (with_trie merge trie)) (way_with_trie merge trie s way)
-    (merged_with_trie merge trie content _ _ gathered.0, compared_with_trie merge trie _ _ _ gathered.1, gathered.2)
+    entry_advances _ _ s _ stands way.held.there way.apart refl (within_refl _ _ _) _ (way_with_trie merge trie s way)
+    (merged_with_trie merge trie _ _ _ gathered.0, compared_with_trie merge trie _ _ _ gathered.1, gathered.2)
 
 module _ (s t : EngineState) (seals : SealsMerge s t) where
   pub sealed_is : t ≡ sealed_stores s seals.merge (Some seals.seals.made)
-  sealed_is = seals.is ∙ ap (λ (m : MergeState). record s { merging = Some m }) seals.seals.same
-
-  pub sealed_merging : t.merging ≡ Some (with_trie seals.merge (Some seals.seals.made))
-  sealed_merging = ap (λ (v : EngineState). v.merging) sealed_is
+  sealed_is = cc (seals.is, seals.seals.same)
 
   -- the step's work so far
   pub sealed_works : {D F E : Type 0} (facts : Ghosts D F) (disk : D) → Stands (facts.content disk) s → Works {E = E} facts [] 0 0 disk disk s t (Ok (tt {0}))
@@ -42,17 +38,7 @@ module _ (s t : EngineState) (seals : SealsMerge s t) where
       none_made)
 
   pub sealed_stands : (content : Content) → Stands content s → Stands content t
-  sealed_stands content stands = subst (Stands content) (sym sealed_is) (seal_advances content s seals.merge (Some seals.seals.made) seals.was stands).stands
-
-  -- the turn is what it was
-  pub sealed_turn : merge_turn s ≡ merge_turn t
-  sealed_turn = ap (λ (o : Option MergeState). merge_turn (record s { merging = o })) seals.was ∙ ap merge_turn (sym sealed_is)
-
-  pub sealed_sound : damaged_in s.merging ≡ damaged_in t.merging
-  sealed_sound = ap damaged_in seals.was ∙ ap damaged_in (sym sealed_merging)
-
-  pub sealed_generation : t.manifest.current.generation ≡ s.manifest.current.generation
-  sealed_generation = ap (λ (v : EngineState). v.manifest.current.generation) sealed_is
+  sealed_stands content stands = subst (Stands content) (sym sealed_is) (seal_advances _ s _ _ seals.was stands).stands
 
   -- what ends the sealed merge ends the merge
   compared_before : (count : ℕ) → AreCompared (sealed_stores s seals.merge (Some seals.seals.made)) count → AreCompared s count
@@ -66,20 +52,18 @@ module _ (s t : EngineState) (seals : SealsMerge s t) where
         was = seals.was;
         none = ends.none;
         shape = ends.shape;
-        current = subst (λ (m : MergeState). after.manifest.current ≡ merged_body s.manifest.current m.stores m.region m.written) same ends.current;
+        current = rw same at ends.current;
         active = ends.active;
         frozen = ends.frozen;
         converting = ends.converting;
-        compared = compared_before _ (subst (λ (m : MergeState). AreCompared (sealed_stores s seals.merge (Some seals.seals.made)) m.stores) same ends.compared);
+        compared = compared_before _ (rw same at ends.compared);
       }
 
   pub merges_before : (after : EngineState) → merge_turn s ≡ Finished → EndsMerged t after → Merges Finished s after
-  merges_before after turn ends = record { due = sym turn; done = ends_before after (subst (λ (v : EngineState). EndsMerged v after) sealed_is ends) }
+  merges_before after turn ends = record { due = sym turn; done = ends_before after (rw sealed_is at ends) }
 
   pub entries_before : (old new : Content) (after : EngineState) → HasMergedEntries old new t after → HasMergedEntries old new s after
-  entries_before old new after entries =
-      let sealed : HasMergedEntries old new (sealed_stores s seals.merge (Some seals.seals.made)) after = subst (λ (v : EngineState). HasMergedEntries old new v after) sealed_is entries in
-      subst (λ (o : Option MergeState). IfSome o (λ merge. (full_stores new after).entries ≡ merged_rows (merge_sources merge.stores (full_stores old s)))) (sym seals.was) sealed
+  entries_before old new after entries = search (arith, sealed_is)
 
 -- a merge that is done may end with a sorted store of its entries and their index, which is made
 pub may_end : (before s : EngineState) (body : Body) (digests : Digests) (digest : List ℕ) (seals : SealsMerge before s) → is_done seals.sealed s.sorted ≡ true → seals.sealed.damaged ≡ None
@@ -93,7 +77,7 @@ may_end before s body digests digest seals done sound unspent is digests_are dig
     let same = seals.seals.same in
     let earlier : (content : Content) (stores : List HashState) (sorted : SortedState) → HasMerged content stores sorted seals.sealed
     → HasMerged content stores sorted seals.merge = λ content stores sorted merged.
-    merged_with_trie (with_trie seals.merge (Some trie)) seals.merge.index.sealed content stores sorted (subst (HasMerged content stores sorted) same merged) in
+    merged_with_trie (with_trie seals.merge (Some trie)) seals.merge.index.sealed content stores sorted (rw same at merged) in
     let done_before : is_done seals.merge s.sorted ≡ true = ap (λ (m : MergeState). is_done m s.sorted) (sym same) ∙ done in
     let made_of : sorted_in seals.sealed ≡ sorted_in seals.merge = ap sorted_in same in (
       record { sorted = sorted_in seals.sealed; index = trie; digest = digest },
@@ -125,10 +109,4 @@ pub may_end_now : (before s : EngineState) (body : Body) (digests : Digests) (di
     → (store : IndexedState) × (store.digest ≡ digest) × EndsMerge s body digests store
 may_end_now before s body digests digest seals merge was done sound unspent is digests_are digested =
     let same : merge ≡ seals.sealed = same_merge merge seals.sealed s.merging was (ap (λ (v : EngineState). v.merging) seals.is) in
-    may_end before s body digests digest seals
-    (subst (λ (m : MergeState). is_done m s.sorted ≡ true) same done)
-    (subst (λ (m : MergeState). m.damaged ≡ None) same sound)
-    unspent
-    (subst (λ (m : MergeState). body ≡ merged_body s.manifest.current m.stores m.region m.written) same is)
-    (subst (λ (m : MergeState). digests ≡ merged_digests s m.stores digest) same digests_are)
-    (subst (λ (m : MergeState). (content : Content) (stores : List HashState) (sorted : SortedState) → HasMerged content stores sorted m → HasDigest content (sorted_in m) digest) same digested)
+    may_end before s body _ digest seals (rw same at done) (rw same at sound) unspent (rw same at is) (rw same at digests_are) (rw same at digested)

@@ -1,15 +1,12 @@
 -- The steps of a merge.
-use Rattle.silt_engine.proofs.Common.{◌≡◌, ◌≢◌, ◌≤◌, ◌<◌, ℕ, ◌+◌, ◌-◌, ◌*◌, ◌==◌, nat_le, nat_lt, Bool, true, false, if◌then◌else◌, IsTrue, List, [], get_or}
-use Rattle.silt_engine.proofs.Common.{length, drop, Option, Some, None, Result, ◌⊎◌, inl, inr, refl, ap, sym, ◌∙◌, subst, arith, All, IfSome, eq-eqb, eqb-false}
-use Rattle.silt_engine.proofs.Common.{lt-ltb, ne_eqb, All-drop, ChangesWithin, Content, MakesAtMost, Ghosts, Shape, sorted_at, sorted_size, HashState}
-use Rattle.silt_engine.proofs.Common.{IsHashStore, HasCompared, HasMerged, regions_of, MergeState, is_done, oldest_stores, steps_of, TakesMemory, SortedState}
-use Rattle.silt_engine.proofs.Common.{Progress, Finished, Idle, Moved, AreWhole, IsHashOf, IsMerging, EngineState, HasGathered, SameDisk, Stands, Advances}
-use Rattle.silt_engine.proofs.Common.{Breaks, Remaps, is_work, step_syncs, step_writes, written_by_merge, Damaged, damaged_in, merge_turn, ◌&&◌, option_map}
-use Rattle.silt_engine.proofs.Common.{MatchesDigests, IsSameMerge, IsHeldMerge, FailsMerge, GoesOn, TakesStep, damaged_place, StepMakes, IsNextMerge}
-use Rattle.silt_engine.proofs.Common.{MayLackMemory, MergeErrorCause, Merges, merge_progress, place_read}
+use Rattle.silt_engine.proofs.Common.{cases_Bool, ◌≡◌, ◌≢◌, ◌<◌, ℕ, ◌+◌, ◌-◌, ◌*◌, ◌==◌, nat_le, nat_lt, Bool, true, false, if◌then◌else◌, IsTrue, List, [], length, drop, Option, Some, None}
+use Rattle.silt_engine.proofs.Common.{Result, ◌⊎◌, inl, inr, refl, ap, sym, ◌∙◌, subst, arith, All, IfSome, eq-eqb, eqb-false, lt-ltb, ne_eqb, All-drop, ChangesWithin, Content, MakesAtMost}
+use Rattle.silt_engine.proofs.Common.{Ghosts, sorted_at, sorted_size, HashState, IsHashStore, HasCompared, HasMerged, MergeState, is_done, oldest_stores, steps_of, TakesMemory, SortedState}
+use Rattle.silt_engine.proofs.Common.{Progress, Finished, Idle, Moved, AreWhole, IsHashOf, IsMerging, EngineState, HasGathered, SameDisk, Stands, Advances, Breaks, Remaps, is_work}
+use Rattle.silt_engine.proofs.Common.{step_syncs, step_writes, written_by_merge, Damaged, damaged_in, merge_turn, ◌&&◌, option_map, MatchesDigests, IsSameMerge, IsHeldMerge, FailsMerge}
+use Rattle.silt_engine.proofs.Common.{GoesOn, TakesStep, damaged_place, StepMakes, MayLackMemory, MergeErrorCause, Merges, merge_progress, place_read}
 use Rattle.silt_merge.specs.declared.merge.StepError.TheVariants as step_error
 use Rattle.silt_event.specs.declared.place.Place.{Place}
-use Rattle.silt_event.specs.declared.place.Place.TheVariants.{HashDigest, SortedDigest}
 use Rattle.silt_merge.specs.declared.merge.StepError.{StepError}
 use Rattle.silt_engine.specs.Merge.{refusal_of_step}
 use Rattle.silt_engine.proofs.MergeDone.{taken_sound}
@@ -23,35 +20,22 @@ module _ (s : EngineState) where
 
   -- with no merge in progress and no hash store
   pub idle_turn : s.merging ≡ None → length s.hashes ≡ 0 → merge_turn s ≡ Idle
-  idle_turn none empty = ap due none ∙ ap (λ (b : Bool). if b then Idle else Moved) (eq-eqb (length s.hashes) 0 empty)
+  idle_turn none empty = cc (none, eq-eqb (length s.hashes) 0 empty)
 
   -- with no merge in progress and some hash stores
   pub first_turn : s.merging ≡ None → 0 < length s.hashes → merge_turn s ≡ Moved
-  first_turn none some = ap due none ∙ ap (λ (b : Bool). if b then Idle else Moved) (ne_eqb (length s.hashes) 0 (λ e. absurd (omega (arith, e, some))))
+  first_turn none some = cc (none, ne_eqb (length s.hashes) 0 (λ e. absurd (omega (arith, e, some))))
 
   -- a merge in progress is done or not
   pub under_way_turn : (merge : MergeState) (done : Bool) → s.merging ≡ Some merge → done ≡ is_done merge s.sorted → merge_turn s ≡ (if done then Finished else Moved)
   under_way_turn merge done was is = ap due was ∙ ap (λ (b : Bool). if b then Finished else Moved) (sym is)
 
-  -- a merge that moves on is not done
-  pub not_done : (merge : MergeState) → s.merging ≡ Some merge → merge_turn s ≡ Moved → is_done merge s.sorted ≡ false
-  not_done merge was turn = by_cases (is_done merge s.sorted) refl
-    where
-      by_cases : (b : Bool) → is_done merge s.sorted ≡ b → is_done merge s.sorted ≡ false
-      by_cases false is = is
-      by_cases true is =
-          let finished : merge_turn s ≡ Finished = under_way_turn merge true was (sym is) in
-          absurd (let no : Moved ≡ Finished = sym turn ∙ finished in cc)
-
-  -- and one that finishes is
+  -- a merge that finishes is done
   pub is_finished : (merge : MergeState) → s.merging ≡ Some merge → merge_turn s ≡ Finished → is_done merge s.sorted ≡ true
-  is_finished merge was turn = by_cases (is_done merge s.sorted) refl
-    where
-      by_cases : (b : Bool) → is_done merge s.sorted ≡ b → is_done merge s.sorted ≡ true
-      by_cases true is = is
-      by_cases false is =
-          let moved : merge_turn s ≡ Moved = under_way_turn merge false was (sym is) in
-          absurd (let no : Finished ≡ Moved = sym turn ∙ moved in cc)
+  is_finished merge was turn = elim (cases_Bool (is_done merge s.sorted)) [
+    | inl is ↦ is
+    | inr more ↦ absurd (cc (under_way_turn merge false was (sym more)))
+  ]
 
 -- ---- the merge under way
 
@@ -59,7 +43,7 @@ pub merging_of : (s : EngineState) (merge : MergeState) → AreWhole s → s.mer
 merging_of s merge whole was = subst (λ (o : Option MergeState). IfSome o (IsMerging s)) was whole.merging
 
 pub gathered_of : (content : Content) (s : EngineState) (merge : MergeState) → Stands content s → s.merging ≡ Some merge → HasGathered content s merge
-gathered_of content s merge stands was = subst (λ (o : Option MergeState). IfSome o (HasGathered content s)) was stands.merged
+gathered_of content s merge stands was = rw was at stands.merged
 
 -- its hash stores have its shape
 pub taken_shapes : (s : EngineState) (merge : MergeState) → AreWhole s → IsMerging s merge → All (λ (store : HashState). store.shape ≡ merge.shape) (oldest_stores merge.stores s.hashes)
@@ -91,7 +75,7 @@ module _ {D F T : Type 0} (facts : Ghosts D F) (old new : D) (s : EngineState) (
     (step : StepsIn facts s old new before after result) where
   -- in the words of the stores
   entry_changes : ChangesWithin (sorted_at s.manifest.shape before.region) (sorted_size s.manifest.shape) (facts.content old) (facts.content new)
-  entry_changes = subst (λ (sh : Shape). ChangesWithin (sorted_at sh before.region) (sorted_size sh) (facts.content old) (facts.content new)) way.has_shape step.region
+  entry_changes = rw way.has_shape at step.region
 
   pub step_disk : SameDisk (facts.content old) (facts.content new)
   step_disk = record { size = step.size; honest = step.region.honest }
@@ -102,23 +86,23 @@ module _ {D F T : Type 0} (facts : Ghosts D F) (old new : D) (s : EngineState) (
     has_shape = step.same.shape ∙ way.has_shape;
     apart = λ e. way.apart (e ∙ step.same.region);
     some = subst (λ (n : ℕ). 0 < n) (sym step.same.stores) way.some;
-    most = subst (λ (n : ℕ). n ≤ length s.hashes) (sym step.same.stores) way.most;
+    most = rw (← step.same.stores) at way.most;
     held = step.held;
   }
 
   -- whether it was done or not
   failed_breaks : Breaks (facts.content old) (facts.content new) s
-  failed_breaks = entry_breaks (facts.content old) (facts.content new) s before.region stands way.held.there way.apart step.size entry_changes
+  failed_breaks = entry_breaks _ _ s _ stands way.held.there way.apart step.size entry_changes
 
   pub failed_map : (merging : Option MergeState) → Remaps [] (facts.content old) (facts.content new) s (record s { merging = merging })
-  failed_map merging = entry_failed_map (facts.content old) (facts.content new) s before.region stands way.held.there way.apart step.size entry_changes
+  failed_map merging = entry_failed_map _ _ s _ stands way.held.there way.apart step.size entry_changes
 
   -- the stores of the merge match their digests
   matches : HasGathered (facts.content old) s before → IsTrue (facts.content old).honest → MatchesDigests (facts.content old) (oldest_stores before.stores s.hashes) s.sorted s.digest before
   matches gathered h = record {
     honest = h;
     merged = gathered.0;
-    sound = taken_sound (facts.content old) s stands h before.stores;
+    sound = taken_sound _ s stands h _;
     hashes = All-drop (IsHashStore (facts.content old)) (length s.hashes - before.stores) s.hashes stands.hashed;
     entries = stands.digested;
   }
@@ -128,8 +112,8 @@ module _ {D F T : Type 0} (facts : Ghosts D F) (old new : D) (s : EngineState) (
   module _ (goes : GoesOn facts (oldest_stores before.stores s.hashes) s.sorted s.digest old new before after) where
     gathered_after : HasGathered (facts.content old) s before → HasGathered (facts.content new) s after
     gathered_after gathered = (
-      subst (λ (n : ℕ). HasMerged (facts.content new) (oldest_stores n s.hashes) s.sorted after) (sym step.same.stores) (goes.merged gathered.0),
-      subst (λ (n : ℕ). HasCompared (oldest_stores n s.hashes) s.sorted s.digest after) (sym step.same.stores) (goes.compared gathered.1),
+      rw (← step.same.stores) at (goes.merged gathered.0),
+      rw (← step.same.stores) at (goes.compared gathered.1),
       λ h. elim goes.finds [
         | inl none ↦ none
         | inr found ↦ absurd (found.1 (matches gathered (subst IsTrue step.region.honest h)))
@@ -137,8 +121,7 @@ module _ {D F T : Type 0} (facts : Ghosts D F) (old new : D) (s : EngineState) (
     )
 
     pub step_advances : HasGathered (facts.content old) s before → Advances [] (facts.content old) (facts.content new) s (record s { merging = Some after })
-    step_advances gathered = entry_advances (facts.content old) (facts.content new) s before.region stands way.held.there way.apart
-        step.size entry_changes (Some after) way_after (gathered_after gathered)
+    step_advances gathered = entry_advances _ _ s _ stands way.held.there way.apart step.size entry_changes _ way_after (gathered_after gathered)
 
     -- it makes a write for the entry that it writes, if it writes one
     pub step_made : written_by_merge s.merging ≡ before.written → StepMakes facts old new s (record s { merging = Some after }) Moved
@@ -153,7 +136,7 @@ module _ {D F T : Type 0} (facts : Ghosts D F) (old new : D) (s : EngineState) (
     -- the cause in place of that of the step
     pub step_cause : (error : StepError F) → FailsMerge facts (oldest_stores before.stores s.hashes) s.sorted old new before after error
         → MergeErrorCause facts old new s finished (refusal_of_step error)
-    step_cause step_error.NoMemory fails = (same fails.0, fails.1, inl (turn, lacks (fails.2 gathered.0 (λ h. taken_sound (facts.content old) s stands h before.stores))))
+    step_cause step_error.NoMemory fails = (same fails.0, fails.1, inl (turn, lacks (fails.2 gathered.0 (λ h. taken_sound _ s stands h _))))
     step_cause (step_error.Read fault) fails = (same fails.0, fails.1, turn, fails.2)
     step_cause (step_error.Damaged place) fails = (same fails.0, fails.1, found place fails.2, ap is_work turn, λ h. let no : None ≡ Some place = sym (gathered.2 h) ∙ fails.2 in cc)
     step_cause (step_error.Write fault) fails = (ap is_work turn, record { counted = fails; breaks = failed_breaks; map = remaps })
@@ -166,7 +149,7 @@ module _ {D F T : Type 0} (facts : Ghosts D F) (old new : D) (s : EngineState) (
 
 -- hash stores that are not none are some
 pub some_stores : (stores : List HashState) (len : ℕ) (empty : Bool) → empty ≡ (len == 0) → empty ≡ false → len ≡ length stores → 0 < length stores
-some_stores stores len empty is none same = let differ = eqb-false len 0 (sym is ∙ none) in omega (arith, differ, same)
+some_stores stores len empty is none same = omega (arith, eqb-false len 0 (sym is ∙ none), same)
 
 -- a merge of all hash stores that was started, from what was read of these stores
 pub record BeginsMerge (s : EngineState) (started : MergeState) : Type 0 where
@@ -208,11 +191,8 @@ module _ (s : EngineState) (started : MergeState) (begins : BeginsMerge s starte
 
   pub started_way : IsMerging s started
   started_way = record {
-    has_shape = ap (λ (v : MergeState). v.shape) begins.is ∙ ap (λ (t : SortedState). t.shape) (begins.sorted_is ∙ begins.whole.sorted);
-    apart = λ e.
-        let below = begins.whole.held.region in
-        let here : started.region ≡ begins.region = ap (λ (v : MergeState). v.region) begins.is in
-        absurd (omega (arith, e, below, here, begins.other));
+    has_shape = cc (begins.is, begins.sorted_is, begins.whole.sorted);
+    apart = λ e. absurd (omega (arith, e, begins.whole.held.region, ap (λ (v : MergeState). v.region) begins.is, begins.other));
     some = omega (arith, begins.some, started_stores);
     most = omega (arith, started_stores);
     held = begins.held;
@@ -234,10 +214,8 @@ module _ (s : EngineState) (started : MergeState) (begins : BeginsMerge s starte
   pub begun : (content : Content) → HasMerged content begins.read begins.sorted started → HasCompared begins.read begins.sorted s.digest started
       → HasGathered content s started
   begun content has compared = (
-    subst (λ (l : List HashState). HasMerged content l s.sorted started) (begins.read_is ∙ sym all_taken)
-        (subst (λ (t : SortedState). HasMerged content begins.read t started) begins.sorted_is has),
-    subst (λ (l : List HashState). HasCompared l s.sorted s.digest started) (begins.read_is ∙ sym all_taken)
-        (subst (λ (t : SortedState). HasCompared begins.read t s.digest started) begins.sorted_is compared),
+    rw (begins.sorted_is, (begins.read_is ∙ sym all_taken)) at has,
+    rw (begins.sorted_is, (begins.read_is ∙ sym all_taken)) at compared,
     λ h. started_sound,
   )
 
@@ -246,13 +224,10 @@ module _ (s : EngineState) (started : MergeState) (begins : BeginsMerge s starte
   started_reads =
       let gathers : nat_lt started.store started.stores ≡ true =
       lt-ltb started.store started.stores (omega (arith, begins_store, begins.some, started_stores)) in
-      ap (λ (b : Bool). if b then HashDigest (get_or (regions_of (oldest_stores started.stores s.hashes)) started.store 0) else SortedDigest) gathers
-      ∙ ap (λ (l : List HashState). HashDigest (get_or (regions_of l) started.store 0)) all_taken
-      ∙ ap (λ (n : ℕ). HashDigest (get_or (regions_of s.hashes) n 0)) begins_store
-      ∙ ap (place_read s.hashes) (sym begins.none)
+      cc (all_taken, begins_store, begins.none)
 
   pub started_written : written_by_merge s.merging ≡ started.written
-  started_written = ap written_by_merge begins.none ∙ sym (ap (λ (v : MergeState). v.written) begins.is)
+  started_written = cc (begins.none, begins.is)
 
   pub begins_turn : merge_turn s ≡ Moved
   begins_turn = first_turn s begins.none begins.some
@@ -261,17 +236,15 @@ module _ (s : EngineState) (started : MergeState) (begins : BeginsMerge s starte
       → (after.damaged ≡ None) ⊎ (after.damaged ≡ Some (damaged_place (oldest_stores started.stores s.hashes) started))
       → Merges Moved s (record s { merging = Some after })
   begin_merges after same step found =
-      let slots : started.store * (4 * started.shape.buckets) ≡ 0 * (4 * started.shape.buckets) =
-      ap (λ (v : MergeState). v.store * (4 * started.shape.buckets)) begins.is in
-      let slot : started.slot ≡ 0 = ap (λ (v : MergeState). v.slot) begins.is in
-      let decided : started.decided ≡ 0 = ap (λ (v : MergeState). v.decided) begins.is in
       record {
         due = sym begins_turn;
         done = record {
           merge = after;
           is = refl;
-          step = subst (λ (o : Option MergeState). IsNextMerge s o after) (sym begins.none)
-              (same.stores ∙ started_stores, omega (arith, step, slots, slot, decided));
+          step = rw begins.none (
+            same.stores ∙ started_stores,
+            omega (arith, step, ap (λ (v : MergeState). v.store * (4 * started.shape.buckets)) begins.is, ap (λ (v : MergeState). v.slot) begins.is, ap (λ (v : MergeState). v.decided) begins.is),
+          );
           found = elim found [
             | inl nothing ↦ inl nothing
             | inr damaged ↦ inr (damaged ∙ ap Some started_reads)
@@ -287,7 +260,7 @@ next_merges s before after was turn same step found = record {
   done = record {
     merge = after;
     is = refl;
-    step = subst (λ (o : Option MergeState). IsNextMerge s o after) (sym was) (same, step);
+    step = rw was (same, step);
     found = elim found [
       | inl nothing ↦ inl nothing
       | inr damaged ↦ inr (damaged ∙ ap Some (ap (place_read s.hashes) (sym was)))
@@ -297,7 +270,7 @@ next_merges s before after was turn same step found = record {
 
 -- if no merge is in progress, any step may be out of memory
 pub first_lacks : (content : Content) (s : EngineState) → s.merging ≡ None → MayLackMemory content s
-first_lacks content s none = subst (λ (o : Option MergeState). IfSome o (λ merge. TakesMemory content (oldest_stores merge.stores s.hashes) s.sorted merge)) (sym none) tt
+first_lacks content s none = rw none tt
 
 -- what a step finds, without why
 pub found_by : {D F : Type 0} {facts : Ghosts D F} {stores : List HashState} {sorted : SortedState} {digest : List ℕ} {old new : D} {before after : MergeState}

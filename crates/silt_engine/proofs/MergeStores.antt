@@ -1,11 +1,9 @@
 -- The rows that a merge takes of the stores that a body names, and the stores with its entries.
-use Rattle.silt_engine.proofs.Common.{◌≡◌, ℕ, zero, suc, ◌+◌, ◌-◌, IsTrue, [], ◌∷◌, ◌++◌, List, length, map, take, drop, refl, ap, sym, ◌∙◌, arith, All}
-use Rattle.silt_engine.proofs.Common.{length-map, take-map, Content, Shape, StoredRow, entry_row, put_count, HashState, IsHashStore, IsSound, known_rows}
-use Rattle.silt_engine.proofs.Common.{oldest_first, Part, log_part, Stores, hash_part, SortedState, count_law, Body, taken_rows, IsMergeOf, entries_in}
-use Rattle.silt_engine.proofs.Common.{regions_of, oldest_stores, merge_sources, merged_body, puts_in, hash_region_of, sorted_named, flat_map, append_assoc}
-use Rattle.silt_engine.proofs.Common.{flat_map-append, map-append, Map, map_after, FindsNothing, charge_of, command_of, map_of_rows, hash_findings, part_rows}
-use Rattle.silt_engine.proofs.Common.{map_law, finds_nothing, is_sound, nothing_first, sum_by-cons, drop-map, MergesLaw, rows_of_hashes, entry_bytes}
-use Rattle.silt_engine.proofs.Common.{entry_more}
+use Rattle.silt_engine.proofs.Common.{◌≡◌, ℕ, zero, suc, ◌+◌, ◌-◌, IsTrue, [], ◌∷◌, ◌++◌, List, length, map, take, drop, refl, ap, sym, ◌∙◌, arith, All, length-map, take-map, Content, Shape}
+use Rattle.silt_engine.proofs.Common.{StoredRow, entry_row, put_count, HashState, IsHashStore, IsSound, known_rows, oldest_first, Part, Stores, hash_part, SortedState, count_law, Body}
+use Rattle.silt_engine.proofs.Common.{taken_rows, IsMergeOf, regions_of, oldest_stores, merge_sources, merged_body, puts_in, hash_region_of, sorted_named, append_assoc, flat_map-append}
+use Rattle.silt_engine.proofs.Common.{map-append, charge_of, map_of_rows, part_rows, map_law, finds_nothing, is_sound, nothing_first, sum_by-cons, drop-map, MergesLaw, rows_of_hashes}
+use Rattle.silt_engine.proofs.Common.{entry_bytes, entry_more}
 use Rattle.silt_image.specs.Meaning.{with_log_rows, rows_of}
 use Rattle.silt_image.specs.Stores.{stores_named}
 use Rattle.silt_sorted_store.specs.State.{sorted_rows}
@@ -16,7 +14,7 @@ use Rattle.std.proofs.Common.{append-nil}
 -- the rows of older stores come first
 older_first : (newer older : List (List StoredRow)) → oldest_first (newer ++ older) ≡ oldest_first older ++ oldest_first newer
 older_first [] older = sym (append-nil (oldest_first older))
-older_first (rows ∷ newer) older = ap (λ (l : List StoredRow). l ++ rows) (older_first newer older) ∙ append_assoc (oldest_first older) (oldest_first newer) rows
+older_first (rows ∷ newer) older = cc (older_first newer older, append_assoc (oldest_first older) (oldest_first newer) rows)
 
 module _ (s : Stores) (body : Body) (newer taken : List Part) (entries : List StoredRow) (split : s.hashes ≡ newer ++ taken) (is : IsMergeOf (taken_rows taken s) entries) where
   abbrev new : Stores
@@ -34,11 +32,12 @@ module _ (s : Stores) (body : Body) (newer taken : List Part) (entries : List St
   pub rows_old : rows_of s ≡ rows ++ rest
   unfolding rows_of
   rows_old =
-      ap (λ (l : List Part). s.entries ++ oldest_first (map known_rows l) ++ oldest_first (map part_rows s.logs)) split
-      ∙ ap (λ (l : List (List StoredRow)). s.entries ++ oldest_first l ++ oldest_first (map part_rows s.logs)) (map-append known_rows newer taken)
-      ∙ ap (λ (l : List StoredRow). s.entries ++ l ++ oldest_first (map part_rows s.logs)) (older_first (map known_rows newer) (map known_rows taken))
-      ∙ ap (λ (l : List StoredRow). l ++ oldest_first (map part_rows s.logs)) (sym (append_assoc s.entries (oldest_first (map known_rows taken)) (oldest_first (map known_rows newer))))
-      ∙ append_assoc rows (oldest_first (map known_rows newer)) (oldest_first (map part_rows s.logs))
+      cc (
+        map-append known_rows newer taken,
+        older_first (map known_rows newer) (map known_rows taken),
+        append_assoc s.entries (oldest_first (map known_rows taken)) (oldest_first (map known_rows newer)),
+        append_assoc rows (oldest_first (map known_rows newer)) (oldest_first (map part_rows s.logs)),
+      )
 
   -- and then the entries do
   rows_new : rows_of new ≡ entries ++ rest
@@ -47,16 +46,11 @@ module _ (s : Stores) (body : Body) (newer taken : List Part) (entries : List St
 
   -- they make the same map
   same_map : map_of_rows (rows_of new) ≡ map_of_rows (rows_of s)
-  same_map =
-      ap map_of_rows rows_new
-      ∙ map_law entries rest
-      ∙ ap (λ (m : Map). map_after m (map command_of rest)) is.same_map
-      ∙ sym (map_law rows rest)
-      ∙ ap map_of_rows (sym rows_old)
+  same_map = cc (rows_new, map_law entries rest, is.same_map, map_law rows rest, rows_old)
 
   -- also with rows behind
   same_behind : (more : List StoredRow) → map_of_rows (rows_of new ++ more) ≡ map_of_rows (rows_of s ++ more)
-  same_behind more = map_law (rows_of new) more ∙ ap (λ (m : Map). map_after m (map command_of more)) same_map ∙ sym (map_law (rows_of s) more)
+  same_behind more = cc (map_law (rows_of new) more, same_map, map_law (rows_of s) more)
 
   -- the entries count for the puts of the rows
   charge_moves : charge_of new + put_count rows ≡ charge_of s + length entries
@@ -65,24 +59,15 @@ module _ (s : Stores) (body : Body) (newer taken : List Part) (entries : List St
   -- and nothing is found
   still_sound : IsSound s → IsSound new
   unfolding with_merged
-  still_sound sound =
-      let nothing : FindsNothing s = finds_nothing s sound in
-      let hashes : flat_map (hash_findings s.shape) newer ++ flat_map (hash_findings s.shape) taken ≡ [] =
-      sym (flat_map-append (hash_findings s.shape) newer taken) ∙ ap (flat_map (hash_findings s.shape)) (sym split) ∙ nothing.hashes in
-      is_sound new (record {
-        logs = nothing.logs;
-        hashes = nothing_first (flat_map (hash_findings s.shape) newer) (flat_map (hash_findings s.shape) taken) hashes;
-        entries = is.rising;
-        charge = omega (arith, nothing.charge, charge_moves, is.charge, is.counted);
-      })
+  still_sound sound = search (arith, finds_nothing, flat_map-append, is_sound, nothing_first, charge_moves)
 
 -- a merge of the entries and the oldest hash stores may replace them as the entries
 pub merges : MergesLaw
 merges s body newer taken entries split sound is = record {
-  map = same_map s body newer taken entries split is;
-  behind = same_behind s body newer taken entries split is;
-  sound = still_sound s body newer taken entries split is sound;
-  charge = charge_moves s body newer taken entries split is;
+  map = same_map s body newer taken _ split is;
+  behind = same_behind s body newer taken _ split is;
+  sound = still_sound s body newer taken _ split is sound;
+  charge = charge_moves s body newer taken _ split is;
 }
 
 -- ---- what a merge takes of the stores of an image
@@ -90,21 +75,14 @@ merges s body newer taken entries split sound is = record {
 -- the oldest of the hash regions that a body names are those of the oldest hash stores
 pub taken_named : (shape : Shape) (image ids : List ℕ) (stores : List HashState) (count : ℕ) → map hash_region_of stores ≡ ids
     → drop (length (map (hash_part shape image) ids) - count) (map (hash_part shape image) ids) ≡ map (hash_part shape image) (regions_of (oldest_stores count stores))
-taken_named shape image ids stores count are =
-    let long : length (map (hash_part shape image) ids) ≡ length stores = length-map ids (hash_part shape image) ∙ ap length (sym are) ∙ length-map stores hash_region_of in
-    ap (λ (n : ℕ). drop (n - count) (map (hash_part shape image) ids)) long
-    ∙ drop-map (hash_part shape image) (length stores - count) ids
-    ∙ ap (λ (l : List ℕ). map (hash_part shape image) (drop (length stores - count) l)) (sym are)
-    ∙ ap (map (hash_part shape image)) (drop-map hash_region_of (length stores - count) stores)
+taken_named shape image ids stores count are = search (arith, length-map, drop-map)
 
 -- what a merge takes of the stores that a body names is what it takes of the stores in memory
 pub sources_named : (shape : Shape) (body : Body) (stores : List HashState) (sorted : SortedState) (count : ℕ) (image : List ℕ)
     → sorted ≡ sorted_named shape body → map hash_region_of stores ≡ body.hashed
     → merge_sources count (stores_named shape body image) ≡ sources image (oldest_stores count stores) sorted
 unfolding stores_named sources
-sources_named shape body stores sorted count image is are =
-    ap (λ (ps : List Part). sorted_rows shape body.sorted body.sorted_count image ++ oldest_first (map known_rows ps)) (taken_named shape image body.hashed stores count are)
-    ∙ ap (λ (t : SortedState). entries_in image t ++ rows_of_hashes t.shape image (regions_of (oldest_stores count stores))) (sym is)
+sources_named shape body stores sorted count image is are = cc (taken_named shape image body.hashed stores count are)
 
 -- other rows of a log change nothing of that
 pub sources_with : (region count : ℕ) (rows : List StoredRow) (t : Stores) → merge_sources count (with_log_rows region rows t) ≡ merge_sources count t
@@ -118,13 +96,7 @@ pub merged_named : (shape : Shape) (body : Body) (count region written : ℕ) (i
     ≡ with_merged (merged_body body count region written) (take (length (stores_named shape body image).hashes - count) (stores_named shape body image).hashes)
     (sorted_rows shape region written image) (stores_named shape body image)
 unfolding stores_named with_merged
-merged_named shape body count region written image =
-    let next : Body = merged_body body count region written in
-    let logs : List Part = map (log_part shape image) (body.active ∷ body.frozen) in
-    let entries : List StoredRow = sorted_rows shape region written image in
-    ap (λ (l : List Part). let s : Stores = record { shape = shape; body = next; logs = logs; hashes = l; entries = entries } in s)
-    (sym (take-map (hash_part shape image) (length body.hashed - count) body.hashed)
-    ∙ ap (λ (n : ℕ). take (n - count) (map (hash_part shape image) body.hashed)) (sym (length-map body.hashed (hash_part shape image))))
+merged_named shape body count region written image = search (arith, take-map, length-map)
 
 -- shape, body and entries of the stores with it
 pub merged_shape : (body : Body) (newer : List Part) (entries : List StoredRow) (t : Stores) → (with_merged body newer entries t).shape ≡ t.shape
@@ -175,15 +147,10 @@ hashes_puts content shape (store ∷ stores) honest shapes stand =
     let its : store.puts ≡ put_count (known_rows (hash_part shape content.shown store.region)) =
     (stand 0 store (omega arith)).counted honest ∙ ap (λ (sh : Shape). put_count (known_rows (hash_part sh content.shown store.region))) (shapes 0 store (omega arith)) in
     let both = count_law (rows_of_hashes shape content.shown (regions_of stores)) (known_rows (hash_part shape content.shown store.region)) in
-    let sum = sum_by-cons (λ (other : HashState). other.puts) store stores in
-    omega (arith, rest, its, both, sum)
+    omega (arith, rest, its, both, sum_by-cons (λ (other : HashState). other.puts) store stores)
 
 -- and so are those of all that a merge takes
 pub sources_puts : (content : Content) (stores : List HashState) (sorted : SortedState) → IsTrue content.honest → All (λ store. store.shape ≡ sorted.shape) stores → All (IsHashStore content) stores
     → put_count (sources content.shown stores sorted) ≡ sorted.count + puts_in stores
 unfolding sources
-sources_puts content stores sorted honest shapes stand =
-    let entries = entries_puts sorted.shape sorted.region sorted.count content.shown in
-    let hashes = hashes_puts content sorted.shape stores honest shapes stand in
-    let both = count_law (entries_in content.shown sorted) (rows_of_hashes sorted.shape content.shown (regions_of stores)) in
-    omega (arith, entries, hashes, both)
+sources_puts content stores sorted honest shapes stand = search (arith, entries_puts, hashes_puts, count_law)

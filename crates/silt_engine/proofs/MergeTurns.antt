@@ -1,12 +1,10 @@
 -- The end of a merge: the record that names its sorted store, and the stores once it is current.
-use Rattle.silt_engine.proofs.Common.{inr, ◌≡◌, ◌≤◌, ◌<◌, ℕ, ◌-◌, ◌*◌, ◌==◌, IsTrue, List, [], ◌++◌, length, map, take, Option, Some, None, refl, ap, sym, ◌∙◌}
-use Rattle.silt_engine.proofs.Common.{subst, arith, All, IfSome, list_any, take-map, All-take, Content, LeavesOnly, Rests, size, Shape, device_size, slot_at}
-use Rattle.silt_engine.proofs.Common.{left_at_rest, StoredRow, put_count, all_rows, KeepsRows, ManifestState, spare_slot, Body, Digests, Stores, stores_named}
-use Rattle.silt_engine.proofs.Common.{AreDigestsOf, IsSound, entries_digest, rows_of, with_log_rows, command_of, ConversionState, IsHashStore, merged_rows}
-use Rattle.silt_engine.proofs.Common.{MergeState, IndexedState, SortedState, entries_of, sorted_rows, digest_elsewhere, indexed_elsewhere, AreWhole, IsHashOf}
-use Rattle.silt_engine.proofs.Common.{IsMerging, IsSettled, IsUnderWay, EngineState, hash_region_of, sorted_named, IsDigested, IsLocated, Stands, shown_stores}
-use Rattle.silt_engine.proofs.Common.{Advances, MayBecomeCurrent, BecomesCurrent, EndsMerge, MayStandFor, charge_without, merge_sources, merged_body}
-use Rattle.silt_engine.proofs.Common.{sorted_replaced, IsHeldSorted, EndsMerged, HasMergedEntries}
+use Rattle.silt_engine.proofs.Common.{inr, ◌≡◌, ℕ, ◌-◌, IsTrue, List, [], ◌++◌, length, map, take, Option, Some, None, refl, ap, sym, ◌∙◌, subst, arith, IfSome, take-map, All-take, Content}
+use Rattle.silt_engine.proofs.Common.{LeavesOnly, Rests, size, Shape, device_size, slot_at, left_at_rest, StoredRow, put_count, all_rows, KeepsRows, ManifestState, spare_slot, Body, Digests}
+use Rattle.silt_engine.proofs.Common.{Stores, stores_named, AreDigestsOf, IsSound, entries_digest, rows_of, with_log_rows, command_of, ConversionState, IsHashStore, merged_rows}
+use Rattle.silt_engine.proofs.Common.{IndexedState, SortedState, entries_of, sorted_rows, digest_elsewhere, indexed_elsewhere, AreWhole, IsHashOf, IsMerging, IsUnderWay, EngineState}
+use Rattle.silt_engine.proofs.Common.{hash_region_of, IsDigested, IsLocated, Stands, shown_stores, Advances, MayBecomeCurrent, BecomesCurrent, EndsMerge, MayStandFor, charge_without}
+use Rattle.silt_engine.proofs.Common.{merge_sources, merged_body, sorted_replaced, IsHeldSorted, EndsMerged, HasMergedEntries}
 use Rattle.silt_engine.specs.Merge as spec
 use Rattle.silt_engine.proofs.Named.{named_shape}
 use Rattle.silt_engine.proofs.Elsewhere.{entries_behind_manifest, indexed_same}
@@ -25,9 +23,9 @@ under_way_fewer s t count None same_shape fewer same_frozen is = tt
 under_way_fewer s t count (Some conversion) same_shape fewer same_frozen is = record {
   has_shape = is.has_shape ∙ sym same_shape;
   some_frozen = omega (arith, is.some_frozen, ap length same_frozen);
-  there = subst (λ (sh : Shape). conversion.region < sh.hashes) (sym same_shape) is.there;
-  free = ap (λ (ids : List ℕ). list_any (λ id. id == conversion.region) ids) fewer ∙ none_of_first s.manifest.current.hashed count conversion.region is.free;
-  most = subst (λ (sh : Shape). conversion.next ≤ 4 * sh.buckets) (sym same_shape) is.most;
+  there = rw (← same_shape) at is.there;
+  free = cc (none_of_first s.manifest.current.hashed count conversion.region is.free);
+  most = rw (← same_shape) at is.most;
 }
 
 -- ---- the body that names the new sorted store
@@ -38,35 +36,31 @@ module _ (old : Content) (s : EngineState) (body : Body) (digests : Digests) (st
 
   -- the stores under it
   abbrev now_stores : Stores
-  now_stores = merged_stores old s ends.merge stands ends.was ends.done body
+  now_stores = merged_stores old s _ stands ends.was ends.done body
 
   -- it names them in each possible crash image, since nothing is pending
   names : LeavesOnly old (λ image. stores_named s.manifest.shape body image ≡ now_stores)
   names = record {
     each = λ h image left.
-        ap (λ (shown : List ℕ). stores_named s.manifest.shape body shown) (left_at_rest rests h image left)
-        ∙ ap (λ (b : Body). stores_named s.manifest.shape b old.shown) ends.is
-        ∙ merged_named s.manifest.shape s.manifest.current ends.merge.stores ends.merge.region ends.merge.written old.shown
-        ∙ ap (λ (b : Body). merged_stores old s ends.merge stands ends.was ends.done b) (sym ends.is);
+        cc (left_at_rest rests h image left, ends.is, merged_named s.manifest.shape s.manifest.current ends.merge.stores ends.merge.region ends.merge.written old.shown);
   }
 
   -- the digests are theirs
   said : IsTrue old.honest → AreDigestsOf (Some digests) now_stores
   said h =
-      subst (λ (d : Digests). AreDigestsOf (Some d) now_stores) (sym ends.digests_are)
-      (merged_said old s stands h body ends.merge.stores _ store
+      subst (λ (d : Digests). AreDigestsOf (Some d) now_stores) (sym ends.digests_are) (merged_said old s stands h body ends.merge.stores _ store
       (ends.digested old stands h
       ∙ ap (λ (t : SortedState). entries_digest (entries_of old t)) ends.entries
       ∙ ap (λ (sh : Shape). entries_digest (sorted_rows sh ends.merge.region ends.merge.written old.shown)) under_way.has_shape))
 
   pub merged_may_become_current : MayBecomeCurrent old s body digests
   merged_may_become_current = record {
-    follows = λ sound. may_end_merge s body digests store sound stands.whole ends;
+    follows = λ sound. may_end_merge s body _ store sound stands.whole ends;
     stores = now_stores;
-    has_shape = merged_shape _ _ _ _ ∙ named_shape s.manifest.shape s.manifest.current old.shown;
+    has_shape = merged_shape _ _ _ _ ∙ named_shape _ _ _;
     has_body = merged_current _ _ _ _;
     names = names;
-    sound = merged_sound old s ends.merge stands ends.was ends.done body;
+    sound = merged_sound old s _ stands ends.was ends.done body;
     said = said;
     same_map = merged_map old s ends.merge stands ends.was ends.done body;
     waiting = inr (ap (λ (b : Body). b.active) ends.is);
@@ -89,25 +83,17 @@ module _ (old : Content) (s : EngineState) (body : Body) (digests : Digests) (st
     pub merged_whole : AreWhole (sorted_replaced s m ends.merge.stores store)
     merged_whole = record {
       has_shape = stands.whole.has_shape ∙ sym now.has_shape;
-      active_region = stands.whole.active_region ∙ ap (λ (b : Body). b.active) (sym current_is);
-      frozen_regions = stands.whole.frozen_regions ∙ ap (λ (b : Body). b.frozen) (sym current_is);
-      settled = subst (λ (sh : Shape). All (IsSettled sh) s.frozen) (sym now.has_shape) stands.whole.settled;
+      active_region = cc (stands.whole.active_region, current_is);
+      frozen_regions = cc (stands.whole.frozen_regions, current_is);
+      settled = rw (← now.has_shape) at stands.whole.settled;
       hash_regions =
-          sym (take-map hash_region_of (length s.hashes - ends.merge.stores) s.hashes)
-          ∙ ap (take (length s.hashes - ends.merge.stores)) stands.whole.hash_regions
-          ∙ ap (λ (n : ℕ). take (n - ends.merge.stores) s.manifest.current.hashed) (hash_count s stands.whole)
-          ∙ ap (λ (b : Body). b.hashed) (sym current_is);
-      hashed = subst (λ (sh : Shape). All (IsHashOf sh) (take (length s.hashes - ends.merge.stores) s.hashes)) (sym now.has_shape)
-          (All-take (IsHashOf s.manifest.shape) (length s.hashes - ends.merge.stores) s.hashes stands.whole.hashed);
-      sorted =
-          ends.entries
-          ∙ ap (λ (sh : Shape). let t : SortedState = record { shape = sh; region = ends.merge.region; count = ends.merge.written } in t) (under_way.has_shape ∙ sym now.has_shape)
-          ∙ ap (λ (b : Body). sorted_named m.shape b) (sym current_is);
+          cc (take-map hash_region_of (length s.hashes - ends.merge.stores) s.hashes, stands.whole.hash_regions, hash_count s stands.whole, current_is);
+      hashed = rw (← now.has_shape) at (All-take (IsHashOf s.manifest.shape) (length s.hashes - ends.merge.stores) s.hashes stands.whole.hashed);
+      sorted = cc (ends.entries, under_way.has_shape, now.has_shape, current_is);
       held = subst IsHeldSorted (sym ends.entries) (record { region = under_way.held.there; room = under_way.held.room });
-      under_way = under_way_fewer s after (length s.manifest.current.hashed - ends.merge.stores) s.converting now.has_shape (ap (λ (b : Body). b.hashed) current_is) refl stands.whole.under_way;
+      under_way = under_way_fewer s after _ _ now.has_shape (ap (λ (b : Body). b.hashed) current_is) refl stands.whole.under_way;
       merging = tt;
-      most = subst (λ (sh : Shape). s.charge - ((s.charge - charge_without s ends.merge.stores) - store.sorted.count) ≤ sh.sorted_capacity)
-          (sym now.has_shape) (let most = stands.whole.most in omega (arith, most));
+      most = rw now.has_shape (omega (arith, stands.whole.most));
     }
 
     pub may_stand_for : MayStandFor s m store
@@ -122,17 +108,13 @@ module _ (old : Content) (s : EngineState) (body : Body) (digests : Digests) (st
     store_shape = ap (λ (t : SortedState). t.shape) ends.entries ∙ under_way.has_shape
 
     located : IsLocated new after
-    located = indexed_elsewhere store.sorted store.index old new (slot_at (spare_slot s.manifest)) 4096 merged_whole.held
-        (subst (λ (sh : Shape). device_size sh ≤ size old) (sym store_shape) (omega (arith, stands.has_size)))
-        (entries_behind_manifest store.sorted.shape store.sorted.region (spare_slot s.manifest) (slot_below old new s stands sizes now.changes))
-        now.changes (ends.located old stands)
+    located = indexed_elsewhere store.sorted store.index old new (slot_at (spare_slot s.manifest)) 4096 merged_whole.held (rw store_shape
+        (omega (arith, stands.has_size))) (entries_behind_manifest _ _ _ (slot_below old new s stands sizes now.changes)) now.changes (ends.located old stands)
 
     -- and so is the digest
     digested : IsDigested new after
-    digested = digest_elsewhere store.sorted store.digest old new (slot_at (spare_slot s.manifest)) 4096 merged_whole.held
-        (subst (λ (sh : Shape). device_size sh ≤ size old) (sym store_shape) (omega (arith, stands.has_size)))
-        (entries_behind_manifest store.sorted.shape store.sorted.region (spare_slot s.manifest) (slot_below old new s stands sizes now.changes))
-        now.changes (ends.digested old stands)
+    digested = digest_elsewhere store.sorted store.digest old new (slot_at (spare_slot s.manifest)) 4096 merged_whole.held (rw store_shape
+        (omega (arith, stands.has_size))) (entries_behind_manifest _ _ _ (slot_below old new s stands sizes now.changes)) now.changes (ends.digested old stands)
 
     fits : Fits new after now_stores
     unfolding merged_may_become_current
@@ -151,11 +133,10 @@ module _ (old : Content) (s : EngineState) (body : Body) (digests : Digests) (st
       same_shape = merged_may_become_current.has_shape ∙ sym now.has_shape;
       same_body = merged_may_become_current.has_body ∙ sym now.has_body;
       named = now_named old new s body digests stands merged_may_become_current sizes m now;
-      sound = λ h.
-          subst (λ (n : ℕ). IsSound (with_log_rows n (all_rows new s.active.log) now_stores)) (ap (λ (b : Body). b.active) (sym current_is))
-          (subst (λ (rows : List StoredRow). IsSound (with_log_rows s.manifest.current.active rows now_stores)) (sym (keeps.all (back h)))
-          (merged_full_sound old s ends.merge stands ends.was ends.done body (back h)));
-      said = λ h. subst (λ (o : Option Digests). AreDigestsOf o now_stores) (sym now.has_digests) (merged_may_become_current.said (back h));
+      sound = λ h. subst (λ (n : ℕ). IsSound (with_log_rows n (all_rows new s.active.log) now_stores)) (ap (λ (b : Body). b.active) (sym current_is)) (subst (λ
+          (rows : List StoredRow). IsSound (with_log_rows s.manifest.current.active rows now_stores)) (sym (keeps.all (back h))) (merged_full_sound old s ends.merge
+          stands ends.was ends.done body (back h)));
+      said = λ h. rw (← now.has_digests) at (merged_may_become_current.said (back h));
       counted = λ h.
           merged_counted old s ends.merge stands ends.was ends.done body (back h) (s.charge - ((s.charge - charge_without s ends.merge.stores) - store.sorted.count))
           (ap (λ (t : SortedState). s.charge - ((s.charge - charge_without s ends.merge.stores) - t.count)) ends.entries)
@@ -165,24 +146,25 @@ module _ (old : Content) (s : EngineState) (body : Body) (digests : Digests) (st
     -- and still stand
     goes : Advances [] old new s (sorted_replaced s m ends.merge.stores store)
     unfolding merged_may_become_current
-    goes = succeeds old new s body digests stands merged_may_become_current sizes m now after fits now.has_shape (λ h. ap (map command_of) (waiting_stays old new s stands sizes now.changes h))
+    goes = succeeds old new s body _ stands merged_may_become_current sizes m now after fits now.has_shape (λ h. ap (map command_of) (waiting_stays old new s stands sizes now.changes h))
 
     pub merged_advances : (finished : EngineState) → finished ≡ sorted_replaced s m ends.merge.stores store → Advances [] old new s finished
-    merged_advances finished is = subst (λ (t : EngineState). Advances [] old new s t) (sym is) goes
+    merged_advances finished is = rw (← is) at goes
 
     -- the merge is ended
     pub ends_merged : (finished : EngineState) → finished ≡ sorted_replaced s m ends.merge.stores store → EndsMerged s finished
-    ends_merged finished is = subst (λ (t : EngineState). EndsMerged s t) (sym is) (record {
-      merge = ends.merge;
-      was = ends.was;
-      none = refl;
-      shape = now.has_shape;
-      current = current_is;
-      active = refl;
-      frozen = refl;
-      converting = refl;
-      compared = all_compared old s ends.merge stands ends.was ends.done ends.sound;
-    })
+    ends_merged finished is = rw is
+        (record {
+          merge = ends.merge;
+          was = ends.was;
+          none = refl;
+          shape = now.has_shape;
+          current = current_is;
+          active = refl;
+          frozen = refl;
+          converting = refl;
+          compared = all_compared old s ends.merge stands ends.was ends.done ends.sound;
+        })
 
     -- its entries are the newest rows that are puts, of what it took on a disk that shows the same stores
     entries_now : IsTrue old.honest → (spec.full_stores new after).entries ≡ merged_rows (merge_sources ends.merge.stores (shown_stores old s))
@@ -190,18 +172,11 @@ module _ (old : Content) (s : EngineState) (body : Body) (digests : Digests) (st
     entries_now h =
         let here : IsTrue new.honest = subst IsTrue (sym now.changes.honest) h in
         ap (λ (t : Stores). t.entries) (full_is new after goes.stands here)
-        ∙ with_entries m.current.active (all_rows new s.active.log) (shown_stores new after)
-        ∙ ap (λ (t : Stores). t.entries) (shown_are new after now_stores fits.same_shape fits.same_body fits.named here)
+        ∙ with_entries _ _ _
+        ∙ ap (λ (t : Stores). t.entries) (shown_are new after _ fits.same_shape fits.same_body fits.named here)
         ∙ merged_entries _ _ _ _
         ∙ entries_are old s ends.merge stands ends.was ends.done h
 
     pub has_merged_entries : (first : Content) (finished : EngineState) → finished ≡ sorted_replaced s m ends.merge.stores store
         → Stands first s → IsTrue first.honest → IsTrue old.honest → shown_stores old s ≡ shown_stores first s → HasMergedEntries first new s finished
-    has_merged_entries first finished is stood was_honest h same =
-        subst (λ (o : Option MergeState). IfSome o (λ merge. (spec.full_stores new finished).entries ≡ merged_rows (merge_sources merge.stores (spec.full_stores first s)))) (sym ends.was) (
-        ap (λ (t : EngineState). (spec.full_stores new t).entries) is
-        ∙ entries_now h
-        ∙ ap (λ (t : Stores). merged_rows (merge_sources ends.merge.stores t)) same
-        ∙ ap merged_rows (sym (sources_with s.manifest.current.active ends.merge.stores (all_rows first s.active.log) (shown_stores first s)))
-        ∙ ap (λ (t : Stores). merged_rows (merge_sources ends.merge.stores t)) (sym (full_is first s stood was_honest))
-        )
+    has_merged_entries first finished is stood was_honest h same = search (arith, entries_now, sources_with, full_is)

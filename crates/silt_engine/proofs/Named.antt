@@ -1,9 +1,8 @@
 -- Stores that a body names, and the images that have them.
-use Rattle.silt_engine.proofs.Common.{◌≡◌, ◌<◌, ℕ, List, [], ◌++◌, map, take, Option, Some, None, Result, Ok, Err, refl, ap, sym, ◌∙◌, subst, Torn, Shape}
-use Rattle.silt_engine.proofs.Common.{commits_at, log_size, log_rows, StoredRow, manifest_found, current_manifest, where_found, Body, Digests, SlotRecord, Map}
-use Rattle.silt_engine.proofs.Common.{map_after, Stores, image_digests, image_stores, AreDigestsOf, HasActive, IsSound, StandsFor, rows_of, command_of}
-use Rattle.silt_engine.proofs.Common.{map_of_rows, whole_law, map_law, rows_law, digests_law, stores_law, log_region_law, append_law, own_rows_law}
-use Rattle.silt_engine.proofs.Common.{beginning_law, stands_law}
+use Rattle.silt_engine.proofs.Common.{arith, ◌≡◌, ◌<◌, ℕ, List, [], ◌++◌, map, take, Option, Some, None, Result, Ok, Err, refl, ap, sym, ◌∙◌, subst, Torn, Shape, commits_at, log_size}
+use Rattle.silt_engine.proofs.Common.{log_rows, StoredRow, manifest_found, current_manifest, where_found, Body, Digests, SlotRecord, Map, map_after, Stores, image_digests, image_stores}
+use Rattle.silt_engine.proofs.Common.{AreDigestsOf, HasActive, IsSound, StandsFor, rows_of, command_of, map_of_rows, whole_law, map_law, rows_law, digests_law, stores_law, log_region_law}
+use Rattle.silt_engine.proofs.Common.{append_law, own_rows_law, beginning_law, stands_law}
 use Rattle.std.proofs.lemmas.List.{append-nil}
 use Rattle.silt_manifest.specs.declared.slot.Damage.{Damage}
 use Rattle.silt_image.specs.Stores.{stores_named}
@@ -30,24 +29,18 @@ with_body region rows t = refl
 
 -- the stores of an image are those that their body names in it
 pub named_here : (shape : Shape) (body : Body) (t : Stores) (image : List ℕ) → image_stores image ≡ Ok t → t.shape ≡ shape → t.body ≡ body → stores_named shape body image ≡ t
-named_here shape body t image is same_shape same_body =
-    ap (λ (s : Shape). stores_named s body image) (sym same_shape) ∙ ap (λ (b : Body). stores_named t.shape b image) (sym same_body)
-    ∙ sym ((stores_law image t).0 is).named
+named_here shape body t image is same_shape same_body = cc (((stores_law image t).0 is).named)
 
 -- an image that is changed in a log region has the stores with that log's rows
 pub region_torn : (shape : Shape) (t : Stores) (region : ℕ) (rows : List StoredRow) (before image : List ℕ) → t.shape ≡ shape → image_stores before ≡ Ok t → region < shape.logs
     → Torn (commits_at shape region) (log_size shape) before image → log_rows shape region image ≡ rows → image_stores image ≡ Ok (with_log_rows region rows t)
-region_torn shape t region rows before image same named below torn are =
-    let inside : region < t.shape.logs = subst (λ (s : Shape). region < s.logs) (sym same) below in
-    let here : Torn (commits_at t.shape region) (log_size t.shape) before image = subst (λ (s : Shape). Torn (commits_at s region) (log_size s) before image) (sym same) torn in
-    log_region_law before image t region named inside here ∙ ap (λ (r : List StoredRow). Ok (with_log_rows region r t)) (ap (λ (s : Shape). log_rows s region image) same ∙ are)
+region_torn shape t region rows before image same named below torn are = search (arith, log_region_law)
 
 -- the first log is the active one
 pub active_named : (shape : Shape) (body : Body) (t : Stores) (rows : List StoredRow) (image : List ℕ) → image_stores image ≡ Ok t
     → t.shape ≡ shape → t.body ≡ body → log_rows shape body.active image ≡ rows → HasActive rows t
 active_named shape body t rows image is same_shape same_body are =
-    subst (λ (r : List StoredRow). HasActive r t) (ap (λ (s : Shape). log_rows s t.body.active image) same_shape
-    ∙ ap (λ (b : Body). log_rows shape b.active image) same_body ∙ are) (whole_law image t is).active
+    rw (ap (λ (s : Shape). log_rows s t.body.active image) same_shape ∙ ap (λ (b : Body). log_rows shape b.active image) same_body ∙ are) at (whole_law image t is).active
 
 -- the map of an image with stores
 pub stores_map : (t : Stores) (image : List ℕ) → image_stores image ≡ Ok t → image_map image ≡ map_of_rows (rows_of t)
@@ -69,8 +62,7 @@ found_current (Err damage) found e = absurd (let no : None ≡ Some found = e in
 -- an image with stores has the digests of the current record
 pub says_current : (shape : Shape) (t : Stores) (found : SlotRecord) (image : List ℕ) → image_stores image ≡ Ok t → t.shape ≡ shape
     → current_manifest shape image ≡ Some found → image_digests image ≡ found.digests
-says_current shape t found image is same_shape is_current =
-    digests_law image t found is (ap (λ (s : Shape). manifest_found s image) same_shape ∙ found_current (manifest_found shape image) found is_current)
+says_current shape t found image is same_shape is_current = digests_law image t found is (cc (found_current (manifest_found shape image) found is_current))
 
 -- the digests of stores do not depend on the rows of the logs
 pub said_with_rows : (said : Option Digests) (region : ℕ) (rows : List StoredRow) (t : Stores) → AreDigestsOf said t → AreDigestsOf said (with_log_rows region rows t)
@@ -82,7 +74,7 @@ said_with_rows said region rows t are = record { hashed = are.hashed; sorted = a
 module _ (t : Stores) (active : ℕ) (settled waiting : List StoredRow) (is : t.body.active ≡ active) (has : HasActive settled t) where
   -- all rows with further ones in the active log
   pub rows_with_more : (more : List StoredRow) → rows_of (with_log_rows active (settled ++ more) t) ≡ rows_of t ++ more
-  rows_with_more more = ap (λ (n : ℕ). rows_of (with_log_rows n (settled ++ more) t)) (sym is) ∙ append_law t settled more has
+  rows_with_more more = cc (append_law t settled more has)
 
   -- their map
   pub map_with_more : (more : List StoredRow) → map_of_rows (rows_of (with_log_rows active (settled ++ more) t)) ≡ map_after (map_of_rows (rows_of t)) (map command_of more)
@@ -90,7 +82,7 @@ module _ (t : Stores) (active : ℕ) (settled waiting : List StoredRow) (is : t.
 
   -- the log with its own rows
   pub own_rows : with_log_rows active settled t ≡ t
-  own_rows = ap (λ (n : ℕ). with_log_rows n settled t) (sym is) ∙ own_rows_law t settled has
+  own_rows = cc (own_rows_law t settled has)
 
   -- if nothing is found with all rows, nothing is with a beginning of the waiting ones
   pub sound_some : (n : ℕ) → IsSound (with_log_rows active (settled ++ waiting) t) → IsSound (with_log_rows active (settled ++ take n waiting) t)

@@ -1,9 +1,8 @@
 -- A change of the manifest: each possible crash image has the stores that were, or those that the next record names.
-use Rattle.silt_engine.proofs.Common.{◌≡◌, ◌<◌, ◌⊎◌, ℕ, ◌+◌, true, IsTrue, List, [], Option, Some, None, Ok, inl, inr, refl, ap, sym, ◌∙◌, subst, arith}
-use Rattle.silt_engine.proofs.Common.{ChangesWithin, Content, Left, LeavesOnly, Torn, size, Shape, slot_at, shown_left, within_wider, current_manifest}
-use Rattle.silt_engine.proofs.Common.{ManifestState, IsCurrent, RecordIsCurrent, current_record, spare_slot, Body, Digests, SlotRecord, StandsFor, image_map}
-use Rattle.silt_engine.proofs.Common.{rows_of, map_of_rows, Stores, image_stores, EngineState, Stands, base_map, shown_stores, waiting_commands, Advances}
-use Rattle.silt_engine.proofs.Common.{Breaks, Remaps, MayBecomeCurrent, BecomesCurrent, within_trans, OldOrNewIsCurrent}
+use Rattle.silt_engine.proofs.Common.{◌≡◌, ◌<◌, ◌⊎◌, ℕ, true, IsTrue, List, [], Some, None, Ok, inl, inr, refl, ap, sym, ◌∙◌, subst, arith, ChangesWithin, Content, Left, LeavesOnly, Torn}
+use Rattle.silt_engine.proofs.Common.{size, slot_at, shown_left, within_wider, current_manifest, ManifestState, IsCurrent, RecordIsCurrent, current_record, spare_slot, Body, Digests}
+use Rattle.silt_engine.proofs.Common.{SlotRecord, StandsFor, image_map, image_stores, EngineState, Stands, base_map, shown_stores, waiting_commands, Advances, Breaks, Remaps}
+use Rattle.silt_engine.proofs.Common.{MayBecomeCurrent, BecomesCurrent, within_trans, OldOrNewIsCurrent}
 use Rattle.std.proofs.lemmas.List.{append-nil}
 use Rattle.silt_manifest.specs.Digests.{long_record}
 use Rattle.silt_engine.proofs.Facts.{active_is, base_is, base_stands}
@@ -33,21 +32,18 @@ before_commit new s body digests each = record { each = λ h image left. inl (ea
 module _ (s : EngineState) (body : Body) (digests : Digests) (m : ManifestState) (is : m ≡ record s.manifest { spare_closed = true; prepared = Some (long_record body digests) }) where
   -- at the commit byte either
   pub at_commit : (new : Content) → LeavesOnly new (OldOrNewIsCurrent m) → LeavesOnly new (EitherIsCurrent s body digests)
-  at_commit new each = subst (λ (n : ManifestState). LeavesOnly new (OldOrNewIsCurrent n)) is each
+  at_commit new each = rw is at each
 
   -- both steps change the spare slot alone
   pub both_steps : (old middle new : Content) → ChangesWithin (slot_at (spare_slot s.manifest)) 4096 old middle
       → ChangesWithin (slot_at (spare_slot m)) 1 middle new → ChangesWithin (slot_at (spare_slot s.manifest)) 4096 old new
-  both_steps old middle new first second =
-      let same : spare_slot m ≡ spare_slot s.manifest = ap (λ (n : ManifestState). spare_slot n) is in
-      let commit : ChangesWithin (slot_at (spare_slot s.manifest)) 1 middle new = subst (λ (slot : ℕ). ChangesWithin (slot_at slot) 1 middle new) same second in
-      within_trans first (within_wider (slot_at (spare_slot s.manifest)) 4096 (omega arith) (omega arith) commit)
+  both_steps old middle new first second = search (arith, within_trans, within_wider)
 
   -- after them the next record is current
   pub becomes_current : (old middle new : Content) (after : ManifestState) → ChangesWithin (slot_at (spare_slot s.manifest)) 4096 old middle → ChangesWithin (slot_at (spare_slot m)) 1 middle new
       → IsCurrent after new → after.shape ≡ m.shape → Some (current_record after) ≡ m.prepared → after.prepared ≡ None → BecomesCurrent old new s body digests after
   becomes_current old middle new after first second is_current same_shape opened idle =
-      let next : current_record after ≡ long_record body digests = same_some (current_record after) (long_record body digests) (opened ∙ ap (λ (n : ManifestState). n.prepared) is) in
+      let next : current_record after ≡ long_record body digests = same_some _ _ (opened ∙ ap (λ (n : ManifestState). n.prepared) is) in
       record {
         current = is_current;
         has_shape = same_shape ∙ ap (λ (n : ManifestState). n.shape) is;
@@ -62,7 +58,7 @@ module _ (s : EngineState) (body : Body) (digests : Digests) (m : ManifestState)
 module _ (old new : Content) (s : EngineState) (body : Body) (digests : Digests) (stands : Stands old s) (may : MayBecomeCurrent old s body digests) (sizes : size new ≡ size old)
     (changes : ChangesWithin (slot_at (spare_slot s.manifest)) 4096 old new) where
   slot_below : spare_slot s.manifest < 2
-  slot_below = below_two (s.manifest.current.generation + 1)
+  slot_below = below_two _
 
   back : IsTrue new.honest → IsTrue old.honest
   back h = subst IsTrue changes.honest h
@@ -74,7 +70,7 @@ module _ (old new : Content) (s : EngineState) (body : Body) (digests : Digests)
   next_named : (h : IsTrue new.honest) (before image : List ℕ) → Left old before → Torn (slot_at (spare_slot s.manifest)) 4096 before image
       → NextIsCurrent s body digests image → image_stores image ≡ Ok may.stores
   next_named h before image left torn is_current =
-      current_named old new s (spare_slot s.manifest) slot_below stands sizes changes h before image (long_record body digests) (stands.named.each (back h) before left) torn is_current
+      current_named old new s _ slot_below stands sizes changes h before image _ (stands.named.each (back h) before left) torn is_current
       ∙ ap Ok (may.names.each (back h) before left)
 
   -- an image has the stores that were, and the old record is current
@@ -92,14 +88,14 @@ module _ (old new : Content) (s : EngineState) (body : Body) (digests : Digests)
       each = λ h image left.
           let from = changes.left (back h) image left in
           elim (each.each h image left) [
-            | inl stays ↦ inl (same_named old new s (spare_slot s.manifest) slot_below stands sizes changes h from.0 image (stands.named.each (back h) from.0 from.1) from.2 stays, stays)
+            | inl stays ↦ inl (same_named old new s _ slot_below stands sizes changes h from.0 image (stands.named.each (back h) from.0 from.1) from.2 stays, stays)
             | inr turns ↦ inr (next_named h from.0 image from.1 from.2 turns, turns)
           ];
     }
 
     next_stands : IsTrue old.honest → (image : List ℕ) → TurnsNamed image → StandsFor s.manifest.shape (base_map old s) image
     next_stands h image (is, is_current) = stands_for s.manifest.shape may.stores (Some digests) (base_map old s) image is may.has_shape (may.sound h) (may.said h)
-        (says_current s.manifest.shape may.stores (long_record body digests) image is may.has_shape is_current) (may.same_map h)
+        (says_current _ _ _ image is may.has_shape is_current) (may.same_map h)
 
     -- each possible crash image represents the base
     pub manifest_breaks : Breaks old new s
@@ -113,18 +109,18 @@ module _ (old new : Content) (s : EngineState) (body : Body) (digests : Digests)
     -- the map of what is shown
     shown_base : IsTrue old.honest → image_map new.shown ≡ base_map old s
     shown_base h = elim (old_or_new.each (there h) new.shown (shown_left new)) [
-      | inl stays ↦ stores_map (shown_stores old s) new.shown stays.0 ∙ sym (base_is old s)
-      | inr turns ↦ stores_map may.stores new.shown turns.0 ∙ may.same_map h
+      | inl stays ↦ stores_map _ _ stays.0 ∙ sym (base_is old s)
+      | inr turns ↦ stores_map _ _ turns.0 ∙ may.same_map h
     ]
 
     -- and of the full image: no row waits, or the same rows wait in the same log
     pub manifest_map : Remaps [] old new s s
     manifest_map h = elim may.waiting [
-      | inl quiet ↦ quiet_remap old new s (spare_slot s.manifest) slot_below stands sizes changes quiet s quiet.settled h (shown_base h)
+      | inl quiet ↦ quiet_remap old new s _ slot_below stands sizes changes quiet s quiet.settled h (shown_base h)
       | inr same ↦ elim (old_or_new.each (there h) new.shown (shown_left new)) [
-        | inl stays ↦ waiting_remap old new s (spare_slot s.manifest) slot_below stands sizes changes s (shown_stores old s) refl
-            (named_shape s.manifest.shape s.manifest.current old.shown) (active_is old s stands) h stays.0 (sym (base_is old s))
-        | inr turns ↦ waiting_remap old new s (spare_slot s.manifest) slot_below stands sizes changes s may.stores refl
+        | inl stays ↦ waiting_remap old new s _ slot_below stands sizes changes s _ refl
+            (named_shape _ _ _) (active_is old s stands) h stays.0 (sym (base_is old s))
+        | inr turns ↦ waiting_remap old new s _ slot_below stands sizes changes s _ refl
             may.has_shape (ap (λ (b : Body). b.active) may.has_body ∙ same) h turns.0 (may.same_map h)
       ]
     ]
@@ -138,24 +134,20 @@ module _ (old new : Content) (s : EngineState) (body : Body) (digests : Digests)
   now_named = record {
     each = λ h image left.
         let from = now.changes.left (subst IsTrue now.changes.honest h) image left in
-        next_named old new s body digests stands may sizes now.changes h from.0 image from.1 from.2
-        (ap (λ (sh : Shape). current_manifest sh image) (sym now.has_shape) ∙ (now.current.each h image left).current
-        ∙ ap (λ (b : Body). let r : SlotRecord = record { body = b; digests = m.digests } in Some r) now.has_body
-        ∙ ap (λ (o : Option Digests). let r : SlotRecord = record { body = body; digests = o } in Some r) now.has_digests);
+        next_named old new s body _ stands may sizes now.changes h from.0 image from.1 from.2
+        (cc (now.has_shape, (now.current.each h image left).current, now.has_body, now.has_digests));
   }
 
   -- stores that fit the disk with them, and with the same waiting rows, stand
   pub succeeds : (after : EngineState) → Fits new after may.stores → after.manifest.shape ≡ s.manifest.shape
       → (IsTrue old.honest → waiting_commands new after ≡ waiting_commands old s) → Advances [] old new s after
   succeeds after fits same_shape waiting = record {
-    stands = fits_stand new after may.stores fits;
+    stands = fits_stand new after _ fits;
     shape = same_shape;
     moves = λ h. record {
       moved = [];
       rest = waiting h ∙ sym (append-nil (waiting_commands old s));
       base =
-          base_is new after
-          ∙ ap (λ (t : Stores). map_of_rows (rows_of t)) (shown_are new after may.stores fits.same_shape fits.same_body fits.named (subst IsTrue (sym now.changes.honest) h))
-          ∙ may.same_map h;
+          cc (base_is new after, shown_are new after may.stores fits.same_shape fits.same_body fits.named (subst IsTrue (sym now.changes.honest) h), may.same_map h);
     };
   }

@@ -1,10 +1,9 @@
 -- When the digests of a record are those of the stores.
-use Rattle.silt_engine.proofs.Common.{◌≡◌, ◌<◌, ℕ, ◌-◌, IsTrue, List, [], ◌∷◌, suc, length, map, take, get_or, replicate, Some, refl, ap, sym, ◌∙◌, arith, All}
-use Rattle.silt_engine.proofs.Common.{get_or-map, length-map, take-map, get_or_from_slice_get, slice_get_within, Content, Shape, StoredRow, Digest, hash_part}
-use Rattle.silt_engine.proofs.Common.{HashState, IsHashStore, AreDigestsOf, entries_digest, part_digest, Stores, Part, Body, IndexedState, SortedState}
-use Rattle.silt_engine.proofs.Common.{entries_of, EngineState, hash_region_of, Stands, shown_stores, digest_of, merged_digests, no_digest, own_digests, padded}
-use Rattle.silt_engine.proofs.Common.{◌≤◌, ◌+◌, Bool, ◌++◌, Option, None, append_assoc, option_to_list, length-take, get_or_append_left, map_more}
-use Rattle.silt_engine.proofs.Common.{converted_digests, slice_set, set-append_seam}
+use Rattle.silt_engine.proofs.Common.{◌≡◌, ◌<◌, ℕ, ◌-◌, IsTrue, List, [], ◌∷◌, suc, length, map, take, get_or, replicate, Some, refl, ap, sym, ◌∙◌, arith, All, get_or-map, length-map}
+use Rattle.silt_engine.proofs.Common.{take-map, get_or_from_slice_get, slice_get_within, Content, Shape, StoredRow, Digest, hash_part, HashState, IsHashStore, AreDigestsOf, entries_digest}
+use Rattle.silt_engine.proofs.Common.{part_digest, Stores, Part, Body, IndexedState, EngineState, hash_region_of, Stands, shown_stores, digest_of, merged_digests, no_digest, own_digests}
+use Rattle.silt_engine.proofs.Common.{padded, ◌≤◌, ◌+◌, Bool, ◌++◌, Option, None, append_assoc, option_to_list, length-take, get_or_append_left, map_more, converted_digests, slice_set}
+use Rattle.silt_engine.proofs.Common.{set-append_seam}
 use Rattle.silt_image.specs.Meaning.{with_new_log}
 use Rattle.silt_image.specs.Stores.{stores_named}
 use Rattle.silt_engine.specs.Replacements.{with_converted, with_merged}
@@ -20,18 +19,18 @@ pub are_said : (ds : List Digest) (sorted : Digest) (t : Stores) → map part_di
     → AreDigestsOf (Some (record { hashed = padded ds; sorted = sorted })) t
 are_said ds sorted t same entries =
     let blank : Digest = record { 0 = [] } in
-    let long : length ds ≡ length t.hashes = sym (length-map ds bytes_of) ∙ ap length (sym same) ∙ length-map t.hashes part_digest in
+    let long : length ds ≡ length t.hashes = cc (length-map ds bytes_of, length-map t.hashes part_digest) in
     record {
       hashed = λ place part here digest is.
           let inside : place < length t.hashes = slice_get_within t.hashes place part here in
           let its : place < length ds = omega (arith, inside, long) in
           let said : (get_or (padded ds) place blank).0 ≡ digest = (let e : Some (get_or (padded ds) place blank).0 ≡ Some digest = is in cc) in
-          sym said
-          ∙ ap bytes_of (get_or_append_left ds (replicate (16 - length ds) no_digest) blank place its)
-          ∙ sym (get_or-map bytes_of ds place blank [] its)
-          ∙ ap (λ (l : List (List ℕ)). get_or l place []) (sym same)
-          ∙ get_or-map part_digest t.hashes place part [] inside
-          ∙ ap part_digest (get_or_from_slice_get t.hashes place part part here);
+          cc (
+            get_or_append_left ds (replicate (16 - length ds) no_digest) blank place its,
+            get_or-map bytes_of ds place blank [] its,
+            get_or-map part_digest t.hashes place part [] inside,
+            get_or_from_slice_get t.hashes place part part here,
+          );
       sorted = λ digest is.
           let said : sorted.0 ≡ digest = (let e : Some sorted.0 ≡ Some digest = is in cc) in
           sym said ∙ entries;
@@ -45,21 +44,19 @@ stores_said : (content : Content) (shape : Shape) (stores : List HashState) → 
 stores_said content shape [] honest shapes stand = refl
 stores_said content shape (store ∷ stores) honest shapes stand =
     let first : part_digest (hash_part shape content.shown store.region) ≡ store.digest =
-    ap (λ (sh : Shape). part_digest (hash_part sh content.shown store.region)) (sym (shapes 0 store (omega arith))) ∙ sym ((stand 0 store (omega arith)).digested honest) in
-    let rest = stores_said content shape stores honest (λ k blank below. shapes (suc k) blank (omega arith)) (λ k blank below. stand (suc k) blank (omega arith)) in
-    ap (λ (l : List (List ℕ)). part_digest (hash_part shape content.shown store.region) ∷ l) rest
-    ∙ ap (λ (d : List ℕ). d ∷ map bytes_of (map digest_of stores)) first
+    cc (shapes 0 store (omega arith), (stand 0 store (omega arith)).digested honest) in
+    let rest = stores_said _ shape stores honest (λ k blank below. shapes (suc k) blank (omega arith)) (λ k blank below. stand (suc k) blank (omega arith)) in
+    cc
 
 module _ (content : Content) (s : EngineState) (stands : Stands content s) (honest : IsTrue content.honest) where
   pub hashes_said : map part_digest (shown_stores content s).hashes ≡ map bytes_of (map digest_of s.hashes)
   unfolding stores_named
   hashes_said =
-      ap (λ (ids : List ℕ). map part_digest (map (hash_part s.manifest.shape content.shown) ids)) (sym stands.whole.hash_regions)
-      ∙ stores_said content s.manifest.shape s.hashes honest (λ k d inside. (stands.whole.hashed k d inside).has_shape) stands.hashed
+      cc (stands.whole.hash_regions, stores_said content s.manifest.shape s.hashes honest (λ k d inside. (stands.whole.hashed k d inside).has_shape) stands.hashed)
 
   entries_said : s.digest ≡ entries_digest (shown_stores content s).entries
   unfolding stores_named
-  entries_said = stands.digested honest ∙ ap (λ (t : SortedState). entries_digest (entries_of content t)) stands.whole.sorted
+  entries_said = cc (stands.digested honest, stands.whole.sorted)
 
   -- there are as many
   pub shown_count : length (shown_stores content s).hashes ≡ length s.hashes
@@ -68,7 +65,7 @@ module _ (content : Content) (s : EngineState) (stands : Stands content s) (hone
       ∙ length-map (map digest_of s.hashes) bytes_of ∙ length-map s.hashes digest_of
 
   own_said : AreDigestsOf (Some (own_digests s)) (shown_stores content s)
-  own_said = are_said (map digest_of s.hashes) (record { 0 = s.digest }) (shown_stores content s) hashes_said entries_said
+  own_said = are_said _ _ _ hashes_said entries_said
 
   -- with a new log too
   pub frozen_said : (body : Body) → AreDigestsOf (Some (own_digests s)) (with_new_log body (shown_stores content s))
@@ -79,9 +76,8 @@ module _ (content : Content) (s : EngineState) (stands : Stands content s) (hone
   pub converted_said : (body : Body) (part : Part) (digest : List ℕ) → digest ≡ part_digest part → AreDigestsOf (Some (converted_digests s digest)) (with_converted body part (shown_stores content s))
   unfolding with_converted
   converted_said body part digest is =
-      are_said (record { 0 = digest } ∷ map digest_of s.hashes) (record { 0 = s.digest }) (with_converted body part (shown_stores content s))
-      (ap (λ (l : List (List ℕ)). part_digest part ∷ l) hashes_said ∙ ap (λ (d : List ℕ). d ∷ map bytes_of (map digest_of s.hashes)) (sym is))
-      entries_said
+      are_said (record { 0 = digest } ∷ map digest_of s.hashes) (record { 0 = s.digest }) (with_converted body part (shown_stores content s)) (ap (λ (l : List
+      (List ℕ)). part_digest part ∷ l) hashes_said ∙ ap (λ (d : List ℕ). d ∷ map bytes_of (map digest_of s.hashes)) (sym is)) entries_said
 
   -- without the oldest hash stores, and with other entries
   pub merged_said : (body : Body) (count : ℕ) (entries : List StoredRow) (store : IndexedState) → store.digest ≡ entries_digest entries
@@ -90,14 +86,11 @@ module _ (content : Content) (s : EngineState) (stands : Stands content s) (hone
   unfolding with_merged
   merged_said body count entries store is =
       let newer : ℕ = length s.hashes - count in
-      are_said (map digest_of (take newer s.hashes)) (record { 0 = store.digest })
-      (with_merged body (take (length (shown_stores content s).hashes - count) (shown_stores content s).hashes) entries (shown_stores content s))
-      (ap (λ (n : ℕ). map part_digest (take (n - count) (shown_stores content s).hashes)) shown_count
+      are_said _ _ _ (ap (λ (n : ℕ). map part_digest (take (n - count) (shown_stores content s).hashes)) shown_count
       ∙ sym (take-map part_digest newer (shown_stores content s).hashes)
       ∙ ap (take newer) hashes_said
       ∙ take-map bytes_of newer (map digest_of s.hashes)
-      ∙ ap (map bytes_of) (take-map digest_of newer s.hashes))
-      is
+      ∙ ap (map bytes_of) (take-map digest_of newer s.hashes)) is
 
 -- ---- digests in their places, one after the other
 
@@ -106,9 +99,7 @@ padded_more : (ds : List Digest) (d : Digest) → length ds < 16 → slice_set (
 padded_more ds d room =
     let left : ℕ = 16 - length (ds ++ d ∷ []) in
     let one_less : 16 - length ds ≡ suc left = omega (arith, room, length-append ds (d ∷ [])) in
-    ap (λ (n : ℕ). slice_set (ds ++ replicate n no_digest) (length ds) d) one_less
-    ∙ set-append_seam ds no_digest (replicate left no_digest) d
-    ∙ sym (append_assoc ds (d ∷ []) (replicate left no_digest))
+    cc (set-append_seam ds no_digest (replicate left no_digest) d, append_assoc ds (d ∷ []) (replicate left no_digest))
 
 -- how many come first
 pub in_front : (first : Option Digest) (is : Bool) (newer : ℕ) → newer ≡ from_bool is → is ≡ is_some first → newer ≡ length (option_to_list first)
@@ -124,9 +115,4 @@ one_more front stores index newer store digest hashed room counted inside here i
     let before : List Digest = map digest_of (take index stores) in
     let place : newer + index ≡ length (front ++ before) = omega (arith, counted, inside, length-append front before, length-map (take index stores) digest_of, length-take index stores) in
     let is : digest ≡ digest_of (get_or stores index store) = ap (λ (bytes : List ℕ). let d : Digest = record { 0 = bytes } in d) its ∙ ap digest_of here in
-    ap (λ (l : List Digest). slice_set l (newer + index) digest) was
-    ∙ ap (λ (n : ℕ). slice_set (padded (front ++ before)) n digest) place
-    ∙ padded_more (front ++ before) digest (omega (arith, place, counted, inside, room))
-    ∙ ap padded (append_assoc front before (digest ∷ []))
-    ∙ ap (λ (d : Digest). padded (front ++ (before ++ d ∷ []))) is
-    ∙ ap (λ (l : List Digest). padded (front ++ l)) (sym (map_more digest_of stores index store inside))
+    cc (padded_more (front ++ before) digest (omega (arith, place, counted, inside, room)), append_assoc front before (digest ∷ []), map_more digest_of stores index store inside)

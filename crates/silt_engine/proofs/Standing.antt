@@ -1,19 +1,18 @@
 -- When stores stand on a disk, from the stores that its images have.
-use Rattle.silt_engine.proofs.Common.{◌≡◌, ℕ, IsTrue, List, [], ◌∷◌, ◌++◌, None, Ok, inr, ap, sym, ◌∙◌, subst, arith, All, IfSome, ChangesWithin, Content}
-use Rattle.silt_engine.proofs.Common.{LeavesOnly, Torn, size, Shape, device_size, commits_at, log_size, shown_left, log_rows, StoredRow, put_count, LogState}
-use Rattle.silt_engine.proofs.Common.{all_rows, waiting_rows, IsLogStore, HasWritten, IsHashStore, Stores, image_stores, AreDigestsOf, IsSound, rows_of}
-use Rattle.silt_engine.proofs.Common.{with_log_rows, IsCurrent, current_record_elsewhere, AreWhole, EngineState, oldest_log, HasGathered, IsDigested, IsFrozen}
-use Rattle.silt_engine.proofs.Common.{IsLocated, Stands, shown_stores, entries_behind_log, torn_trans}
+use Rattle.silt_engine.proofs.Common.{◌≡◌, ℕ, IsTrue, List, [], ◌∷◌, ◌++◌, None, Ok, inr, ap, sym, ◌∙◌, subst, arith, All, IfSome, ChangesWithin, Content, LeavesOnly, Torn, size, Shape}
+use Rattle.silt_engine.proofs.Common.{device_size, commits_at, log_size, shown_left, log_rows, StoredRow, put_count, LogState, all_rows, waiting_rows, IsLogStore, HasWritten, IsHashStore}
+use Rattle.silt_engine.proofs.Common.{Stores, image_stores, AreDigestsOf, IsSound, rows_of, with_log_rows, IsCurrent, current_record_elsewhere, AreWhole, EngineState, oldest_log}
+use Rattle.silt_engine.proofs.Common.{HasGathered, IsDigested, IsFrozen, IsLocated, Stands, shown_stores, entries_behind_log, torn_trans}
 use Rattle.silt_log.specs.State as log
 use Rattle.silt_engine.proofs.Named.{named_here}
 use Rattle.silt_engine.proofs.Facts.{active_below, full_torn, torn_active}
-use Rattle.silt_engine.proofs.Elsewhere.{all_frozen_elsewhere, all_hashed_elsewhere, digested_elsewhere, located_elsewhere, merged_all_elsewhere, not_active}
-use Rattle.silt_engine.proofs.Elsewhere.{outside_other, slots_behind_log, written_all_elsewhere, IsApart, region_before_conversion, region_before_merge}
+use Rattle.silt_engine.proofs.Elsewhere.{all_frozen_elsewhere, all_hashed_elsewhere, digested_elsewhere, located_elsewhere, merged_all_elsewhere, not_active, outside_other, slots_behind_log}
+use Rattle.silt_engine.proofs.Elsewhere.{written_all_elsewhere, IsApart, region_before_conversion, region_before_merge}
 
 -- the stores that are shown are those that all images have
 pub shown_are : (content : Content) (s : EngineState) (t : Stores) → t.shape ≡ s.manifest.shape → t.body ≡ s.manifest.current
     → LeavesOnly content (λ image. image_stores image ≡ Ok t) → IsTrue content.honest → shown_stores content s ≡ t
-shown_are content s t same_shape same_body named honest = named_here s.manifest.shape s.manifest.current t content.shown (named.each honest content.shown (shown_left content)) same_shape same_body
+shown_are content s t same_shape same_body named honest = named_here _ _ t _ (named.each honest content.shown (shown_left _)) same_shape same_body
 
 -- what has to be known for stores to stand on a disk
 pub record Fits (content : Content) (s : EngineState) (t : Stores) : Type 0 where
@@ -37,7 +36,7 @@ pub record Fits (content : Content) (s : EngineState) (t : Stores) : Type 0 wher
 
 pub fits_stand : (content : Content) (s : EngineState) (t : Stores) → Fits content s t → Stands content s
 fits_stand content s t fits =
-    let is : IsTrue content.honest → shown_stores content s ≡ t = shown_are content s t fits.same_shape fits.same_body fits.named in
+    let is : IsTrue content.honest → shown_stores content s ≡ t = shown_are _ s t fits.same_shape fits.same_body fits.named in
     record {
       has_size = fits.has_size;
       whole = fits.whole;
@@ -52,10 +51,9 @@ fits_stand content s t fits =
       written = fits.written;
       merged = fits.merged;
       named = record { each = λ h image left. fits.named.each h image left ∙ ap Ok (sym (is h)) };
-      sound = λ h. subst (λ (u : Stores). IsSound (with_log_rows s.active.log.region (all_rows content s.active.log) u)) (sym (is h))
-          (subst (λ (n : ℕ). IsSound (with_log_rows n (all_rows content s.active.log) t)) (sym fits.whole.active_region) (fits.sound h));
-      said = λ h. subst (λ (u : Stores). AreDigestsOf s.manifest.digests u) (sym (is h)) (fits.said h);
-      counted = λ h. fits.counted h ∙ ap (λ (u : Stores). put_count (rows_of u ++ waiting_rows content s.active.log)) (sym (is h));
+      sound = λ h. rw (← fits.whole.active_region, ← (is h)) at (fits.sound h);
+      said = λ h. rw (← (is h)) at (fits.said h);
+      counted = λ h. cc (fits.counted h, is h);
     }
 
 -- what comes before both of two lists can be left out
@@ -72,14 +70,11 @@ module _ (old new : Content) (s : EngineState) (stands : Stands old s) (sizes : 
 
   -- in the manifest's words
   pub changes_active : ChangesWithin (commits_at s.manifest.shape s.manifest.current.active) (log_size s.manifest.shape) old new
-  changes_active =
-      subst (λ (n : ℕ). ChangesWithin (commits_at s.manifest.shape n) (log_size s.manifest.shape) old new) stands.whole.active_region
-      (subst (λ (sh : Shape). ChangesWithin (commits_at sh s.active.log.region) (log_size sh) old new) stands.whole.has_shape changes)
+  changes_active = rw (stands.whole.has_shape, stands.whole.active_region) at changes
 
   -- the same manifest is current
   pub current_record_stays : IsCurrent s.manifest new
-  current_record_stays = current_record_elsewhere s.manifest (commits_at s.manifest.shape s.manifest.current.active) (log_size s.manifest.shape)
-      old new (omega (arith, stands.has_size)) (inr (omega arith)) changes_active stands.current
+  current_record_stays = current_record_elsewhere _ _ _ old new (omega (arith, stands.has_size)) (inr (omega arith)) changes_active stands.current
 
   -- all else lies apart
   apart : IsTrue old.honest → IsApart s.manifest.shape s.manifest.current (commits_at s.manifest.shape s.manifest.current.active) (log_size s.manifest.shape)
@@ -104,12 +99,12 @@ module _ (old new : Content) (s : EngineState) (stands : Stands old s) (sizes : 
 
   -- a conversion has written what it had, and a merge has gathered and written what it had
   pub written_stays : IfSome s.converting (HasWritten new (oldest_log s))
-  written_stays = written_all_elsewhere old new s _ _ stands changes_active apart s.converting
-      (λ h. region_before_conversion s s.manifest.current.active (active_below old s stands)) stands.whole.under_way stands.written
+  written_stays = written_all_elsewhere old new s _ _ stands changes_active apart _
+      (λ h. region_before_conversion s _ (active_below old s stands)) stands.whole.under_way stands.written
 
   pub merged_stays : IfSome s.merging (HasGathered new s)
-  merged_stays = merged_all_elsewhere old new s _ _ stands changes_active apart s.merging
-      (λ h. region_before_merge s s.manifest.current.active (active_below old s stands)) stands.whole.merging stands.merged
+  merged_stays = merged_all_elsewhere old new s _ _ stands changes_active apart _
+      (λ h. region_before_merge s _ (active_below old s stands)) stands.whole.merging stands.merged
 
   -- with these rows of the log in each image, each has the stores with them
   pub named_with : (rows : List StoredRow) → LeavesOnly new (λ image. log_rows s.active.log.shape s.active.log.region image ≡ rows)
@@ -126,7 +121,7 @@ module _ (old new : Content) (s : EngineState) (stands : Stands old s) (sizes : 
       → image_stores (log.opened_image new l) ≡ Ok (with_log_rows s.manifest.current.active rows (shown_stores old s))
   full_with h l rows same_shape same_region bounds are =
       let opened : Torn (commits_at l.shape l.region) (log_size l.shape) new.shown (log.opened_image new l) =
-      full_torn new l bounds (sizes ∙ stands.has_size ∙ ap device_size (sym stands.whole.has_shape ∙ sym same_shape)) in
+      full_torn new l bounds (cc (stands.has_size, stands.whole.has_shape, same_shape)) in
       let here : Torn (commits_at s.active.log.shape s.active.log.region) (log_size s.active.log.shape) new.shown (log.opened_image new l) =
       subst (λ (n : ℕ). Torn (commits_at s.active.log.shape n) (log_size s.active.log.shape) new.shown (log.opened_image new l)) same_region
       (subst (λ (sh : Shape). Torn (commits_at sh l.region) (log_size sh) new.shown (log.opened_image new l)) same_shape opened) in

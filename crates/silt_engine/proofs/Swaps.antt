@@ -1,9 +1,8 @@
 -- What is exchanged in memory at the end of a conversion.
-use Rattle.silt_engine.proofs.Common.{◌≡◌, ℕ, ◌+◌, ◌-◌, ◌++◌, ◌∷◌, List, [], get_or, length, take, Option, Some, None, refl, ap, sym, ◌∙◌, subst, arith, IfSome}
-use Rattle.silt_engine.proofs.Common.{option_to_list, length-map, take-append_seam, LogStoreState, ConversionState, IsDigestOf, HashState, IsHeldHash}
-use Rattle.silt_engine.proofs.Common.{ManifestState, AreWhole, EngineState, hash_region_of, oldest_log, MayReplace, ReplacesOldest, oldest_replaced, store_of}
-use Rattle.silt_engine.proofs.Common.{drop, length-drop, take_all, MergeState, oldest_stores, IndexedState, MayStandFor, charge_without, puts_in}
-use Rattle.silt_engine.proofs.Common.{sorted_replaced, insert, IsSome, same_Some, sorted_in, MarkedCode, SortedState}
+use Rattle.silt_engine.proofs.Common.{◌≡◌, ℕ, ◌+◌, ◌-◌, ◌++◌, ◌∷◌, List, [], get_or, length, take, Option, Some, None, refl, ap, sym, ◌∙◌, subst, arith, IfSome, option_to_list, length-map}
+use Rattle.silt_engine.proofs.Common.{take-append_seam, LogStoreState, ConversionState, IsDigestOf, HashState, IsHeldHash, ManifestState, AreWhole, EngineState, hash_region_of, oldest_log}
+use Rattle.silt_engine.proofs.Common.{MayReplace, ReplacesOldest, oldest_replaced, store_of, drop, length-drop, take_all, MergeState, IndexedState, MayStandFor, puts_in, sorted_replaced}
+use Rattle.silt_engine.proofs.Common.{insert, IsSome, same_Some, sorted_in}
 use Rattle.std.proofs.Common.{length-append}
 
 -- a list with an element put in front
@@ -35,7 +34,7 @@ pub named_more : (s : EngineState) (m : ManifestState) (may : MayReplace s m) (e
     → taken ≡ s.converting → taken ≡ Some ended → (made : HashState) (digest : List ℕ) → made ≡ store_of ended digest → IsHeldHash made
     → length m.current.hashed ≡ length s.hashes + 1
 named_more s m may ended taken taken_is taken_some made digest made_is held =
-    let same : ended ≡ may.conversion = same_conversion ended may.conversion s.converting (sym taken_is ∙ taken_some) may.was in
+    let same : ended ≡ may.conversion = same_conversion ended _ _ (sym taken_is ∙ taken_some) may.was in
     let is_store : made ≡ store_of may.conversion digest = made_is ∙ ap (λ (v : ConversionState). store_of v digest) same in
     let whole = may.whole digest (subst IsHeldHash is_store held) in
     omega (arith, ap length whole.hash_regions, length-map (store_of may.conversion digest ∷ s.hashes) hash_region_of)
@@ -47,45 +46,28 @@ module _ (s : EngineState) (m : ManifestState) (may : MayReplace s m) (ended : C
     (converting : Option ConversionState) (converting_is : converting ≡ None) (log_puts puts dropped charge : ℕ) (log_puts_are : log_puts ≡ log.puts) (puts_are : puts ≡ ended.puts)
     (dropped_is : dropped ≡ log_puts - puts) (charge_is : charge ≡ s.charge - dropped) where
   same : ended ≡ may.conversion
-  same = same_conversion ended may.conversion s.converting (sym taken_is ∙ taken_some) may.was
+  same = same_conversion ended _ _ (sym taken_is ∙ taken_some) may.was
 
   off : (frozen ≡ take (length s.frozen - 1) s.frozen) × (log ≡ oldest_log s)
-  off = last_off s.frozen frozen log s.active popped frozen_items popped_some
+  off = last_off _ frozen log _ popped frozen_items popped_some
 
   is_store : made ≡ store_of may.conversion digest
-  is_store = made_is ∙ ap (λ (v : ConversionState). store_of v digest) same
-
-  hashes_now : hashes ≡ store_of may.conversion digest ∷ s.hashes
-  hashes_now = hashes_are ∙ in_front s.hashes made ∙ ap (λ (t : HashState). t ∷ s.hashes) is_store
-
-  charge_now : charge ≡ s.charge - ((oldest_log s).puts - may.conversion.puts)
-  charge_now =
-      charge_is
-      ∙ ap (λ (n : ℕ). s.charge - n) (
-      dropped_is
-      ∙ ap (λ (n : ℕ). n - puts) (log_puts_are ∙ ap (λ (l : LogStoreState). l.puts) off.1)
-      ∙ ap (λ (n : ℕ). (oldest_log s).puts - n) (puts_are ∙ ap (λ (v : ConversionState). v.puts) same)
-      )
-
-  abbrev parts : List LogStoreState → List HashState → Option ConversionState → ℕ → EngineState
-  parts f h o n = record s { manifest = m; frozen = f; hashes = h; converting = o; charge = n }
+  is_store = cc same
 
   -- the stores afterwards
-  pub replaced_are : parts frozen hashes converting charge ≡ oldest_replaced s m may.conversion digest
-  replaced_are =
-      ap (λ (l : List LogStoreState). parts l hashes converting charge) off.0
-      ∙ ap (λ (l : List HashState). parts (take (length s.frozen - 1) s.frozen) l converting charge) hashes_now
-      ∙ ap (λ (o : Option ConversionState). parts (take (length s.frozen - 1) s.frozen) (store_of may.conversion digest ∷ s.hashes) o charge) converting_is
-      ∙ ap (parts (take (length s.frozen - 1) s.frozen) (store_of may.conversion digest ∷ s.hashes) None) charge_now
+  abbrev now : EngineState
+  now = record s { manifest = m; frozen = frozen; hashes = hashes; converting = converting; charge = charge }
+
+  pub replaced_are : now ≡ oldest_replaced s m may.conversion digest
+  replaced_are = cc (same, off.0, off.1, in_front s.hashes made)
 
   -- are whole
-  pub replaced_whole : AreWhole (record s { manifest = m; frozen = frozen; hashes = hashes; converting = converting; charge = charge })
-  replaced_whole = subst AreWhole (sym replaced_are) (may.whole digest (subst IsHeldHash is_store made_held))
+  pub replaced_whole : AreWhole now
+  replaced_whole = rw replaced_are (may.whole digest (rw is_store at made_held))
 
   -- and the hash store has the digest of its conversion
-  pub replaces : IfSome s.converting (ReplacesOldest s m (record s { manifest = m; frozen = frozen; hashes = hashes; converting = converting; charge = charge }))
-  replaces = subst (λ (o : Option ConversionState). IfSome o (ReplacesOldest s m (parts frozen hashes converting charge))) (sym may.was)
-      (record { digest = digest; digested = subst (λ (v : ConversionState). IsDigestOf v.hasher digest) same made_digested; is = replaced_are })
+  pub replaces : IfSome s.converting (ReplacesOldest s m now)
+  replaces = rw may.was (record { digest = digest; digested = rw same at made_digested; is = replaced_are })
 
 -- ---- a merge
 
@@ -96,9 +78,7 @@ same_merge a b o first second = let e : Some a ≡ Some b = sym first ∙ second
 -- the merge that ends has made its index
 pub is_sealed : (s : EngineState) (m : ManifestState) (store : IndexedState) (may : MayStandFor s m store) (merge : MergeState) (taken : Option MergeState)
     → taken ≡ s.merging → taken ≡ Some merge → IsSome merge.index.sealed
-is_sealed s m store may merge taken taken_is taken_some =
-    let same = same_merge may.merge merge s.merging may.was (sym taken_is ∙ taken_some) in
-    subst (λ (v : MergeState). IsSome v.index.sealed) same (subst IsSome (sym may.sealed) refl)
+is_sealed s m store may merge taken taken_is taken_some = search (arith, same_merge)
 
 -- what a list has from a place on, as a slice
 pub from_on : (place : ℕ) (stores : List HashState) → take (length stores - place) (drop place stores) ≡ drop place stores
@@ -108,14 +88,7 @@ from_on place stores = take_all (length stores - place) (drop place stores) (ome
 pub store_is : (s : EngineState) (m : ManifestState) (store made : IndexedState) (may : MayStandFor s m store) (merge : MergeState)
     (taken : Option MergeState) (digest : List ℕ) → taken ≡ s.merging → taken ≡ Some merge → store.digest ≡ digest
     → made.sorted ≡ sorted_in merge → merge.index.sealed ≡ Some made.index → made.digest ≡ digest → store ≡ made
-store_is s m store made may merge taken digest taken_is taken_some has_digest sorted index made_digest =
-    let same = same_merge may.merge merge s.merging may.was (sym taken_is ∙ taken_some) in
-    let entries : store.sorted ≡ made.sorted = may.entries ∙ ap sorted_in same ∙ sym sorted in
-    let indexed : store.index ≡ made.index = same_Some store.index made.index (sym may.sealed ∙ ap (λ (v : MergeState). v.index.sealed) same ∙ index) in
-    let digested : store.digest ≡ made.digest = has_digest ∙ sym made_digest in
-    ap (λ (t : SortedState). record store { sorted = t }) entries
-    ∙ ap (λ (i : MarkedCode). record store { sorted = made.sorted; index = i }) indexed
-    ∙ ap (λ (d : List ℕ). record made { digest = d }) digested
+store_is s m store made may merge taken digest taken_is taken_some has_digest sorted index made_digest = search (arith, same_merge, same_Some)
 
 module _ (s : EngineState) (m : ManifestState) (store : IndexedState) (may : MayStandFor s m store) (ended : MergeState)
     (taken : Option MergeState) (taken_is : taken ≡ s.merging) (taken_some : taken ≡ Some ended) (count newer : ℕ) (count_is : count ≡ ended.stores)
@@ -124,36 +97,16 @@ module _ (s : EngineState) (m : ManifestState) (store : IndexedState) (may : May
     (entries written without left gone dropped charge : ℕ) (entries_are : entries ≡ s.sorted.count) (written_is : written ≡ store.sorted.count)
     (without_is : without ≡ s.charge - puts_in merged) (left_is : left ≡ without - entries)
     (gone_is : gone ≡ s.charge - left) (dropped_is : dropped ≡ gone - written) (charge_is : charge ≡ s.charge - dropped) where
-  pub counted : count ≡ may.merge.stores
-  counted = count_is ∙ ap (λ (v : MergeState). v.stores) (same_merge ended may.merge s.merging (sym taken_is ∙ taken_some) may.was)
-
-  newer_now : newer ≡ length s.hashes - may.merge.stores
-  newer_now = newer_is ∙ ap (λ (n : ℕ). length s.hashes - n) counted
-
-  without_now : without ≡ s.charge - puts_in (oldest_stores may.merge.stores s.hashes)
-  without_now = without_is ∙ ap (λ (l : List HashState). s.charge - puts_in l) (merged_are ∙ ap (λ (n : ℕ). drop n s.hashes) newer_now)
-
-  left_now : left ≡ charge_without s may.merge.stores
-  left_now = left_is ∙ ap (λ (n : ℕ). n - entries) without_now ∙ ap (λ (n : ℕ). (s.charge - puts_in (oldest_stores may.merge.stores s.hashes)) - n) entries_are
-
-  merged_charge : charge ≡ s.charge - ((s.charge - charge_without s may.merge.stores) - store.sorted.count)
-  merged_charge = charge_is ∙ ap (λ (n : ℕ). s.charge - n) (dropped_is ∙ ap (λ (n : ℕ). n - written) (gone_is ∙ ap (λ (n : ℕ). s.charge - n) left_now)
-      ∙ ap (λ (n : ℕ). (s.charge - charge_without s may.merge.stores) - n) written_is)
-
-  abbrev merged_parts : List HashState → Option MergeState → ℕ → EngineState
-  merged_parts l o n = record s { manifest = m; hashes = l; sorted = store.sorted; index = store.index; digest = store.digest; merging = o; charge = n }
-
   -- the stores afterwards
-  sorted_are : merged_parts hashes merging charge ≡ sorted_replaced s m may.merge.stores store
-  sorted_are =
-      ap (λ (l : List HashState). merged_parts l merging charge) (hashes_are ∙ ap (λ (n : ℕ). take n s.hashes) newer_now)
-      ∙ ap (λ (o : Option MergeState). merged_parts (take (length s.hashes - may.merge.stores) s.hashes) o charge) merging_is
-      ∙ ap (merged_parts (take (length s.hashes - may.merge.stores) s.hashes) None) merged_charge
+  abbrev after : EngineState
+  after = record s { manifest = m; hashes = hashes; sorted = store.sorted; index = store.index; digest = store.digest; merging = merging; charge = charge }
 
-  pub replaced : IfSome s.merging (λ merge. record s
-      { manifest = m; hashes = hashes; sorted = store.sorted; index = store.index; digest = store.digest; merging = merging; charge = charge } ≡ sorted_replaced s m merge.stores store)
-  replaced = subst (λ (o : Option MergeState). IfSome o (λ merge. merged_parts hashes merging charge ≡ sorted_replaced s m merge.stores store)) (sym may.was) sorted_are
+  sorted_are : after ≡ sorted_replaced s m may.merge.stores store
+  sorted_are = cc (same_merge ended may.merge s.merging (sym taken_is ∙ taken_some) may.was)
+
+  pub replaced : IfSome s.merging (λ merge. after ≡ sorted_replaced s m merge.stores store)
+  replaced = rw may.was sorted_are
 
   -- are whole
-  pub sorted_whole : AreWhole (record s { manifest = m; hashes = hashes; sorted = store.sorted; index = store.index; digest = store.digest; merging = merging; charge = charge })
-  sorted_whole = subst AreWhole (sym sorted_are) may.whole
+  pub sorted_whole : AreWhole after
+  sorted_whole = rw sorted_are may.whole

@@ -1,5 +1,6 @@
 -- A merge whose builder has made a trie.
-use Rattle.silt_engine.proofs.Common.{ℕ, List, Option, Content, HashState, HasCompared, HasMerged, IsGatheredIn, IsMergedIn, IsHeldMerge, MergeState, SortedState, MarkedCode, EngineState, IsMerging}
+use Rattle.silt_engine.proofs.Common.{arith, ℕ, List, Option, Content, HashState, HasCompared, HasMerged, IsGatheredIn, IsMergedIn, IsHeldMerge, MergeState, SortedState, MarkedCode}
+use Rattle.silt_engine.proofs.Common.{EngineState, IsMerging}
 
 -- a merge whose builder has this trie
 abbrev pub with_trie : MergeState → Option MarkedCode → MergeState
@@ -8,32 +9,10 @@ with_trie merge trie = record merge { index = record { building = merge.index.bu
 module _ (merge : MergeState) (trie : Option MarkedCode) where
   -- what holds of a merge holds with it
   held_with_trie : IsHeldMerge merge → IsHeldMerge (with_trie merge trie)
-  held_with_trie held = record {
-    there = held.there;
-    store = held.store;
-    slot = held.slot;
-    ended = held.ended;
-    gathers = held.gathers;
-    fresh = held.fresh;
-    unpassed = held.unpassed;
-    above = held.above;
-    inside = λ key source is. let inside = held.inside key source is in record { store = inside.store; slot = inside.slot };
-    room = held.room;
-    few = held.few;
-    index = held.index;
-  }
+  held_with_trie held = search arith
 
   gathered_with_trie : (image : List ℕ) (stores : List HashState) (sorted : SortedState) → IsGatheredIn image stores sorted merge → IsGatheredIn image stores sorted (with_trie merge trie)
-  gathered_with_trie image stores sorted is = record {
-    most = is.most;
-    waits = is.waits;
-    last = is.last;
-    slots = is.slots;
-    ahead = is.ahead;
-    passes = is.passes;
-    slots_hashed = is.slots_hashed;
-    entries_hashed = is.entries_hashed;
-  }
+  gathered_with_trie image stores sorted is = assumption
 
   pub merged_with_trie : (content : Content) (stores : List HashState) (sorted : SortedState) → HasMerged content stores sorted merge → HasMerged content stores sorted (with_trie merge trie)
   merged_with_trie content stores sorted is = record {
@@ -43,11 +22,11 @@ module _ (merge : MergeState) (trie : Option MarkedCode) where
     hashed = is.hashed;
     merged = λ honest sound.
         let in_it : IsMergedIn content.shown stores sorted merge = is.merged honest sound in
-        record { gathered = gathered_with_trie content.shown stores sorted in_it.gathered; writes = in_it.writes; index = in_it.index };
+        record { gathered = gathered_with_trie _ stores sorted in_it.gathered; writes = in_it.writes; index = in_it.index };
   }
 
   pub compared_with_trie : (stores : List HashState) (sorted : SortedState) (digest : List ℕ) → HasCompared stores sorted digest merge → HasCompared stores sorted digest (with_trie merge trie)
-  compared_with_trie stores sorted digest is = record { hashes = is.hashes; entries = is.entries; input = is.input }
+  compared_with_trie stores sorted digest is = assumption
 
   pub way_with_trie : (s : EngineState) → IsMerging s merge → IsMerging s (with_trie merge trie)
-  way_with_trie s way = record { has_shape = way.has_shape; apart = way.apart; some = way.some; most = way.most; held = held_with_trie way.held }
+  way_with_trie s way = assumption (held_with_trie way.held)

@@ -1,11 +1,9 @@
 -- Whether the row that a lookup found waits for a flush.
-use Rattle.silt_engine.proofs.Common.{◌≡◌, ◌≢◌, ◌<◌, ◌≤◌, ◌+◌, ◌-◌, ◌||◌, ◌==◌, ℕ, Bool, true, false, cond, if◌then◌else◌, nat_le, IsTrue, List, [], ◌∷◌, ◌++◌}
-use Rattle.silt_engine.proofs.Common.{length, map, get_or, Option, Some, None, inl, inr, refl, ap, sym, ◌∙◌, subst, arith, list_any, bytes_eq, get, get-insert}
-use Rattle.silt_engine.proofs.Common.{get-remove, cases_lt, le-leb, nat_list_cmp_total, get_or-map, list_any_at, get_or_from_slice_get, slice_get_within}
-use Rattle.silt_engine.proofs.Common.{bytes_eq-Decides, Command, Map, changed, delete, map_after, put, command_of, StoredRow, keys_of, FindsLast, HasNoRow}
-use Rattle.silt_engine.proofs.Common.{IsLastRow, Found, all_rows, settled_rows, waiting_rows, all_are_settled_and_waiting, all_count, IsIndexed, Content}
-use Rattle.silt_engine.proofs.Common.{EngineState, Stands, waiting_commands, Active, lt-leb, get_or-append-add, get_or-append_right, list_any_none, same_key}
-use Rattle.silt_engine.proofs.Common.{changes_key, is_of_key, is_waiting_row}
+use Rattle.silt_engine.proofs.Common.{◌≡◌, ◌≢◌, ◌<◌, ◌≤◌, ◌+◌, ◌-◌, ◌||◌, ℕ, Bool, true, false, if◌then◌else◌, nat_le, IsTrue, List, [], ◌∷◌, ◌++◌, length, map, get_or, Option, Some, None}
+use Rattle.silt_engine.proofs.Common.{inl, inr, refl, ap, sym, ◌∙◌, subst, arith, list_any, bytes_eq, get, get-insert, get-remove, cases_lt, le-leb, nat_list_cmp_total, get_or-map}
+use Rattle.silt_engine.proofs.Common.{list_any_at, get_or_from_slice_get, slice_get_within, bytes_eq-Decides, Command, Map, changed, delete, map_after, put, command_of, StoredRow, keys_of}
+use Rattle.silt_engine.proofs.Common.{FindsLast, HasNoRow, IsLastRow, Found, all_rows, settled_rows, waiting_rows, all_are_settled_and_waiting, all_count, IsIndexed, Content, EngineState}
+use Rattle.silt_engine.proofs.Common.{Stands, waiting_commands, Active, lt-leb, get_or-append-add, get_or-append_right, list_any_none, same_key, changes_key, is_of_key, is_waiting_row}
 use Rattle.std.proofs.Common.{length-append}
 use Rattle.silt_engine.proofs.Lookups.{other_key}
 
@@ -13,8 +11,8 @@ use Rattle.silt_engine.proofs.Lookups.{other_key}
 
 -- what a map has for a key after a command of another one
 other_stays : (m : Map) (command : Command) (key : List ℕ) → is_of_key key command ≡ false → get (changed m command) key ≡ get m key
-other_stays m (put other value) key differs = get-insert nat_list_cmp_total m other value key ∙ ap (λ (b : Bool). cond b (Some value) (get m key)) (same_key key other ∙ differs)
-other_stays m (delete other) key differs = get-remove nat_list_cmp_total m other key ∙ ap (λ (b : Bool). cond b None (get m key)) (same_key key other ∙ differs)
+other_stays m (put other value) key differs = cc (get-insert nat_list_cmp_total m other value key, same_key key other)
+other_stays m (delete other) key differs = cc (get-remove nat_list_cmp_total m other key, same_key key other)
 
 neither : (a b : Bool) → (a || b) ≡ false → (a ≡ false) × (b ≡ false)
 neither true b none = absurd (cc)
@@ -24,13 +22,13 @@ neither false b none = (refl, none)
 pub others_stay : (m : Map) (commands : List Command) (key : List ℕ) → changes_key commands key ≡ false → get (map_after m commands) key ≡ get m key
 others_stay m [] key none = refl
 others_stay m (command ∷ commands) key none =
-    let differ = neither (is_of_key key command) (changes_key commands key) none in
+    let differ = neither _ _ none in
     others_stay (changed m command) commands key differ.1 ∙ other_stays m command key differ.0
 
 -- ---- rows and their commands
 
 of_row : (key : List ℕ) (row : StoredRow) → is_of_key key (command_of row) ≡ bytes_eq row.key key
-of_row key row = go (row.kind == 1)
+of_row key row = go _
   where
     go : (b : Bool) → is_of_key key (if b then put row.key row.value else delete row.key) ≡ bytes_eq row.key key
     go true = refl
@@ -38,7 +36,7 @@ of_row key row = go (row.kind == 1)
 
 of_rows : (key : List ℕ) (rows : List StoredRow) → changes_key (map command_of rows) key ≡ list_any (λ (row : StoredRow). bytes_eq row.key key) rows
 of_rows key [] = refl
-of_rows key (row ∷ rows) = ap (λ (b : Bool). b || changes_key (map command_of rows) key) (of_row key row) ∙ ap (λ (b : Bool). bytes_eq row.key key || b) (of_rows key rows)
+of_rows key (row ∷ rows) = cc (of_row key row, of_rows key rows)
 
 module _ (settled waiting : List StoredRow) (key : List ℕ) where
   -- from this place on no row has the key
@@ -47,32 +45,30 @@ module _ (settled waiting : List StoredRow) (key : List ℕ) where
 
   -- the key of a waiting row, by its number
   key_behind : (index : ℕ) (default : StoredRow) → index < length waiting → get_or (keys_of (settled ++ waiting)) (length settled + index) [] ≡ (get_or waiting index default).key
-  key_behind index default inside =
-      get_or-map (λ (row : StoredRow). row.key) (settled ++ waiting) (length settled + index) default [] (omega (arith, inside, length-append settled waiting))
-      ∙ ap (λ (row : StoredRow). row.key) (get_or-append-add settled waiting index default)
+  key_behind index default inside = search (arith, get_or-map, length-append, get_or-append-add)
 
   -- so none waits, if the place is not behind the settled rows
   none_waits : (from : ℕ) → from ≤ length settled → LacksFrom from → changes_key (map command_of waiting) key ≡ false
   none_waits from before lacks =
-      of_rows key waiting
+      of_rows key _
       ∙ list_any_none (λ (row : StoredRow). bytes_eq row.key key) waiting (λ index default inside. other_key (get_or waiting index default).key key
-      (λ same. lacks (length settled + index) (omega (arith, before)) (omega (arith, inside, length-append settled waiting)) (key_behind index default inside ∙ same)))
+      (λ same. lacks (length settled + index) (omega (arith, before)) (omega (arith, inside, length-append settled waiting)) (key_behind index _ inside ∙ same)))
 
   -- a row of the key behind the settled rows waits
   one_waits : (place : ℕ) (row : StoredRow) → length settled ≤ place → IsLastRow (settled ++ waiting) key place row → changes_key (map command_of waiting) key ≡ true
   one_waits place row behind is =
-      let inside = slice_get_within (settled ++ waiting) place row is.there in
       let here : get_or waiting (place - length settled) row ≡ row =
       sym (get_or-append_right settled waiting (length settled) place row refl behind) ∙ get_or_from_slice_get (settled ++ waiting) place row row is.there in
-      of_rows key waiting
-      ∙ list_any_at (λ (row : StoredRow). bytes_eq row.key key) waiting (place - length settled) row (omega (arith, behind, inside, length-append settled waiting))
+      of_rows key _
+      ∙ list_any_at (λ (row : StoredRow). bytes_eq row.key key) waiting (place - length settled) row
+      (omega (arith, behind, slice_get_within (settled ++ waiting) place row is.there, length-append settled waiting))
       ((bytes_eq-Decides (get_or waiting (place - length settled) row).key key).1 (ap (λ (r : StoredRow). r.key) here ∙ is.has_key))
 
   -- the last row of the key waits exactly if a waiting command changes the key
   last_waits : (found : Found) → FindsLast (settled ++ waiting) key (Some found) → nat_le (length settled) found.place ≡ changes_key (map command_of waiting) key
   last_waits found (row, is, kind) = elim (cases_lt found.place (length settled)) [
     | inl before ↦ lt-leb (length settled) found.place before ∙ sym (none_waits (found.place + 1) (omega (arith, before)) (λ place past inside. is.last place (omega (arith, past)) inside))
-    | inr behind ↦ le-leb (length settled) found.place behind ∙ sym (one_waits found.place row behind is)
+    | inr behind ↦ le-leb (length settled) found.place behind ∙ sym (one_waits _ row behind is)
   ]
 
   -- and without a row of the key none does
@@ -87,17 +83,15 @@ module _ (content : Content) (view s : EngineState) (is : view ≡ s) (key : Lis
   -- the last row of the key, among the settled and the waiting rows
   finds_last : FindsLast (settled_rows content s.active.log ++ waiting_rows content s.active.log) key o
   finds_last =
-      subst (λ (rows : List StoredRow). FindsLast rows key o) (all_are_settled_and_waiting content s.active.log stands.active.bounds.order)
-      (subst (λ (v : EngineState). IsTrue content.honest → IsIndexed content v.active → FindsLast (all_rows content v.active.log) key o) is finds honest stands.indexed)
+      rw (all_are_settled_and_waiting content s.active.log stands.active.bounds.order) at (subst (λ (v : EngineState). IsTrue content.honest → IsIndexed content
+      v.active → FindsLast (all_rows content v.active.log) key o) is finds honest stands.indexed)
 
   -- it is there
   pub active_waits : (found : Found) → o ≡ Some found → is_waiting_row s (Some (Active, found)) ≡ changes_key (waiting_commands content s) key
   active_waits found some =
       ap (λ (n : ℕ). nat_le n found.place) (sym (all_count content (record s.active.log { used = s.active.log.settled })))
-      ∙ last_waits (settled_rows content s.active.log) (waiting_rows content s.active.log) key found
-      (subst (FindsLast (settled_rows content s.active.log ++ waiting_rows content s.active.log) key) some finds_last)
+      ∙ last_waits (settled_rows content s.active.log) (waiting_rows content s.active.log) key found (rw some at finds_last)
 
   -- it is not, so no row of the key waits
   pub nothing_waits : o ≡ None → false ≡ changes_key (waiting_commands content s) key
-  nothing_waits none = lacking_waits (settled_rows content s.active.log) (waiting_rows content s.active.log) key
-      (subst (FindsLast (settled_rows content s.active.log ++ waiting_rows content s.active.log) key) none finds_last)
+  nothing_waits none = lacking_waits (settled_rows content s.active.log) (waiting_rows content s.active.log) key (rw none at finds_last)

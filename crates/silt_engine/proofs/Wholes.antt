@@ -1,7 +1,6 @@
 -- Stores in memory that stay whole, and the oldest log, which a conversion reads.
-use Rattle.silt_engine.proofs.Common.{◌≡◌, ◌≤◌, ◌<◌, ◌*◌, ◌-◌, ◌==◌, ℕ, List, ◌∷◌, suc, length, get_or, Option, Some, None, refl, ap, sym, ◌∙◌, subst, arith}
-use Rattle.silt_engine.proofs.Common.{All, IfSome, list_any, get_or_default, Content, Shape, ConversionState, HasWritten, MergeState, LogStoreState}
-use Rattle.silt_engine.proofs.Common.{ManifestState, Body, AreWhole, IsHashOf, IsMerging, IsSettled, IsUnderWay, EngineState, oldest_log, sorted_named}
+use Rattle.silt_engine.proofs.Common.{◌≡◌, ◌≤◌, ◌<◌, ◌-◌, ℕ, List, ◌∷◌, length, get_or, Option, Some, None, sym, ◌∙◌, arith, IfSome, get_or_default, Content, ConversionState, HasWritten}
+use Rattle.silt_engine.proofs.Common.{MergeState, LogStoreState, ManifestState, AreWhole, IsMerging, IsUnderWay, EngineState, oldest_log}
 
 -- ---- the oldest log
 
@@ -11,9 +10,7 @@ oldest_any logs d e some = get_or_default logs (length logs - 1) d e (omega (ari
 
 -- and the same behind a newer one
 pub oldest_behind : (newer : LogStoreState) (logs : List LogStoreState) (d e : LogStoreState) → 0 < length logs → get_or (newer ∷ logs) (length (newer ∷ logs) - 1) d ≡ get_or logs (length logs - 1) e
-oldest_behind newer logs d e some =
-    let last : length (newer ∷ logs) - 1 ≡ suc (length logs - 1) = omega (arith, some) in
-    ap (λ (n : ℕ). get_or (newer ∷ logs) n d) last ∙ oldest_any logs d e some
+oldest_behind newer logs d e some = search (arith, oldest_any)
 
 -- ---- a conversion
 
@@ -24,16 +21,16 @@ under_way_in s t None same_shape same_hashed more is = tt
 under_way_in s t (Some conversion) same_shape same_hashed more is = record {
   has_shape = is.has_shape ∙ sym same_shape;
   some_frozen = omega (arith, is.some_frozen, more);
-  there = subst (λ (sh : Shape). conversion.region < sh.hashes) (sym same_shape) is.there;
-  free = ap (λ (ids : List ℕ). list_any (λ id. id == conversion.region) ids) same_hashed ∙ is.free;
-  most = subst (λ (sh : Shape). conversion.next ≤ 4 * sh.buckets) (sym same_shape) is.most;
+  there = rw (← same_shape) at is.there;
+  free = cc (is.free);
+  most = rw (← same_shape) at is.most;
 }
 
 -- what it has written is of the oldest log
 pub written_in : (content : Content) (s : EngineState) (log : LogStoreState) (o : Option ConversionState) → (0 < length s.frozen → log ≡ oldest_log s) → IfSome o (IsUnderWay s)
     → IfSome o (HasWritten content (oldest_log s)) → IfSome o (HasWritten content log)
 written_in content s log None same is written = tt
-written_in content s log (Some conversion) same is written = subst (λ (l : LogStoreState). HasWritten content l conversion) (sym (same is.some_frozen)) written
+written_in content s log (Some conversion) same is written = rw (← (same is.some_frozen)) at written
 
 -- ---- a merge
 
@@ -55,39 +52,14 @@ merging_in s t (Some merge) same_shape same_region more is = record {
 pub whole_with_active : (s : EngineState) (after : LogStoreState) (charge : ℕ) → AreWhole s → after.log.shape ≡ s.active.log.shape
     → after.log.region ≡ s.active.log.region → charge ≤ s.manifest.shape.sorted_capacity
     → AreWhole (record s { active = after; charge = charge })
-whole_with_active s after charge whole same_shape same_region most = record {
-  has_shape = same_shape ∙ whole.has_shape;
-  active_region = same_region ∙ whole.active_region;
-  frozen_regions = whole.frozen_regions;
-  settled = whole.settled;
-  hash_regions = whole.hash_regions;
-  hashed = whole.hashed;
-  sorted = whole.sorted;
-  held = whole.held;
-  under_way = under_way_in s (record s { active = after; charge = charge }) s.converting refl refl (omega arith) whole.under_way;
-  merging = merging_in s (record s { active = after; charge = charge }) s.merging refl refl (omega arith) whole.merging;
-  most = most;
-}
+whole_with_active s after charge whole same_shape same_region most = search (arith, under_way_in, merging_in)
 
 -- what a conversion has written is of the same log
 pub written_with_active : (content : Content) (s : EngineState) (after : LogStoreState) (charge : ℕ) → AreWhole s → IfSome s.converting (HasWritten content (oldest_log s))
     → IfSome s.converting (HasWritten content (oldest_log (record s { active = after; charge = charge })))
-written_with_active content s after charge whole written =
-    written_in content s (oldest_log (record s { active = after; charge = charge })) s.converting (oldest_any s.frozen after s.active) whole.under_way written
+written_with_active content s after charge whole written = written_in _ s _ _ (oldest_any _ after _) whole.under_way written
 
 -- with another manifest of the same shape and the same current record, and with this conversion and this merge
 pub whole_with : (s : EngineState) (m : ManifestState) (converting : Option ConversionState) (merging : Option MergeState) → m.shape ≡ s.manifest.shape → m.current ≡ s.manifest.current
     → IfSome converting (IsUnderWay s) → IfSome merging (IsMerging s) → AreWhole s → AreWhole (record s { manifest = m; converting = converting; merging = merging })
-whole_with s m converting merging same_shape same_current under_way is_merging whole = record {
-  has_shape = whole.has_shape ∙ sym same_shape;
-  active_region = whole.active_region ∙ ap (λ (b : Body). b.active) (sym same_current);
-  frozen_regions = whole.frozen_regions ∙ ap (λ (b : Body). b.frozen) (sym same_current);
-  settled = subst (λ (sh : Shape). All (IsSettled sh) s.frozen) (sym same_shape) whole.settled;
-  hash_regions = whole.hash_regions ∙ ap (λ (b : Body). b.hashed) (sym same_current);
-  hashed = subst (λ (sh : Shape). All (IsHashOf sh) s.hashes) (sym same_shape) whole.hashed;
-  sorted = whole.sorted ∙ ap (λ (sh : Shape). sorted_named sh s.manifest.current) (sym same_shape) ∙ ap (sorted_named m.shape) (sym same_current);
-  held = whole.held;
-  under_way = under_way_in s (record s { manifest = m; converting = converting; merging = merging }) converting same_shape (ap (λ (b : Body). b.hashed) same_current) (omega arith) under_way;
-  merging = merging_in s (record s { manifest = m; converting = converting; merging = merging }) merging same_shape refl (omega arith) is_merging;
-  most = subst (λ (sh : Shape). s.charge ≤ sh.sorted_capacity) (sym same_shape) whole.most;
-}
+whole_with s m converting merging same_shape same_current under_way is_merging whole = search (arith, under_way_in, merging_in)

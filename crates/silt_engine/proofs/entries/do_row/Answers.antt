@@ -1,5 +1,4 @@
-use Rattle.silt_engine.proofs.Common.{sym, Key, row_of}
-use Rattle.silt_engine.proofs.Counting.{told_apart}
+use Rattle.silt_engine.proofs.Common.{ne_eqb, sym, Key, row_of}
 use Rattle.silt_engine.proofs.Folds.{bytes_from, does_delete, does_row}
 use Rattle.silt_engine.proofs.entries.do_row.Goals as goal
 
@@ -12,4 +11,4 @@ returns-in_ok-put_value c =
 pub returns-else-bytes-eq-PUT : goal.returns-else-bytes-eq-PUT
 returns-else-bytes-eq-PUT c =
     let key : Key = record { 0 = c.copy_from_slice.new.self } in
-    does_delete (row_of c.args.bytes.now) key c.args.entries.now c.remove-older.new.self (told_apart _ 1 c.if-bytes-eq-PUT.false) (sym c.copy_from_slice.ensures.after) c.remove-older.ensures.updates
+    does_delete (row_of c.args.bytes.now) key c.args.entries.now c.remove-older.new.self (ne_eqb _ 1 c.if-bytes-eq-PUT.false) (sym c.copy_from_slice.ensures.after) c.remove-older.ensures.updates

@@ -1,6 +1,5 @@
-use Rattle.silt_engine.proofs.Common.{◌≡◌, ◌-◌, List, [], length, None, refl, ap, sym, ◌∙◌, subst, arith, rules, option_copied, InLimits, Shape, device_size}
-use Rattle.silt_engine.proofs.Common.{LogStoreState, EngineState, Stands, convert_turn, Finished, Moved, MakesAtMost, Progress, step_syncs}
-use Rattle.silt_engine.proofs.Common.{step_writes, Idle, Makes, none_made}
+use Rattle.silt_engine.proofs.Common.{◌≡◌, ◌-◌, List, [], length, None, refl, ap, sym, ◌∙◌, subst, arith, rules, option_copied, InLimits, Shape, device_size, LogStoreState, EngineState}
+use Rattle.silt_engine.proofs.Common.{Stands, convert_turn, Finished, Moved, MakesAtMost, Progress, step_syncs, step_writes, Idle, Makes, none_made}
 use Rattle.silt_engine.proofs.engine.Engine.begin_conversion.Given as given
 use Rattle.std.specs.Prelude.{slice_get}
 use Rattle.silt_engine.specs.Conversion.{refusal_of_step}
@@ -24,7 +23,7 @@ limits : (g : given.Over) (c : After-lowest_free_hash g) → InLimits (state_of 
 limits g c = subst InLimits c.geometry-geometry.ensures.value c.hashes.ensures.limits
 
 stands : (g : given.Over) (c : After-lowest_free_hash g) → Stands (g.D.Disk.content c.args.disk.now) (state_of c.self.inside)
-stands g c = subst (λ (v : EngineState). Stands (g.D.Disk.content c.args.disk.now) v) (sym c.self.view_is) c.requires.stands
+stands g c = rw (← c.self.view_is) at c.requires.stands
 
 pub returns-in_default-lowest_free_hash-clause-converts :
     goal.returns-in_default-lowest_free_hash-clause-converts
@@ -61,7 +60,7 @@ returns-in_err-step-clause-err g c =
 pub invariant_of-self : goal.invariant_of-self
 invariant_of-self g c =
     let at = (goal.at.invariant_of-self g c).After-lowest_free_hash in
-    let goes = first_advances _ _ _ _ _ (may g at) c.in-Some-lowest_free_hash.ensures.some _ c.in-Ok.ensures.start (limits g at) _ _ c.step.new.self
+    let goes = first_advances _ _ _ _ _ (may g at) c.in-Some-lowest_free_hash.ensures.some _ c.in-Ok.ensures.start (limits g at) _ _ _
     (stands g at) (c.in-Ok.ensures.written (g.D.Disk.content c.args.disk.now)) c.step.ensures.wrote.size c.step.ensures.wrote.changes
     c.in_ok-step.ensures.ok c.step.ensures.written in
     record { whole = goes.stands.whole; enough = c.self.invariant.enough; enough_hashes = c.self.invariant.enough_hashes }
@@ -81,7 +80,7 @@ pub returns-clause-converts : goal.returns-clause-converts
 returns-clause-converts g c =
     let at = (goal.at.returns-clause-converts g c).After-lowest_free_hash in
     rw (← c.self.view_is) (begin_converts _ _ _ _ _ (may g at) c.in-Some-lowest_free_hash.ensures.some _ c.in-Ok.ensures.start (limits g at)
-    c.step.new.self _ c.in_ok-step.ensures.ok.next)
+    _ _ c.in_ok-step.ensures.ok.next)
 
 pub returns-in_default-clause-works : goal.returns-in_default-clause-works
 returns-in_default-clause-works g c =

@@ -1,12 +1,10 @@
-use Rattle.silt_engine.proofs.Common.{◌≡◌, ◌≤◌, ◌-◌, ℕ, false, List, [], length, Some, None, refl, ap, sym, ◌∙◌, subst, arith, All, length-map, Shape}
-use Rattle.silt_engine.proofs.Common.{HashState, Finished, Moved, is_done, oldest_stores, SortedState, EngineState, hash_region_of, Stands, none_made}
-use Rattle.silt_engine.proofs.Common.{HasGathered}
+use Rattle.silt_engine.proofs.Common.{◌≡◌, ◌≤◌, ◌-◌, ℕ, false, [], length, Some, None, refl, ap, sym, ◌∙◌, arith, length-map, Shape, Finished, Moved, EngineState, hash_region_of, Stands}
+use Rattle.silt_engine.proofs.Common.{none_made, HasGathered}
 use Rattle.silt_engine.proofs.engine.Engine.begin_merge.Given as given
 use Rattle.silt_engine.specs.Merge.{refusal_of_step}
 use Rattle.silt_engine.proofs.Counting.{sound_hashes}
-use Rattle.silt_engine.proofs.MergeSteps.{begin_merges, begun, failed_map, first_lacks, found_by, most_made, some_stores, started_not_done, started_sound}
-use Rattle.silt_engine.proofs.MergeSteps.{started_way, started_written, step_advances, step_cause, step_disk, step_made, steps_in, taken_shapes, way_after}
-use Rattle.silt_engine.proofs.MergeSteps.{BeginsMerge, begins_turn}
+use Rattle.silt_engine.proofs.MergeSteps.{begin_merges, begun, failed_map, first_lacks, found_by, most_made, some_stores, started_not_done, started_sound, started_way, started_written}
+use Rattle.silt_engine.proofs.MergeSteps.{step_advances, step_cause, step_disk, step_made, steps_in, taken_shapes, way_after, BeginsMerge, begins_turn}
 use Rattle.silt_engine.proofs.Exits.{on_error, state_of, nothing_done, went, went_off, refused}
 use Rattle.silt_engine.proofs.Wholes.{whole_with}
 use Rattle.silt_engine.proofs.engine.Engine.begin_merge.Goals.{In-Ok}
@@ -15,8 +13,8 @@ use Rattle.silt_engine.proofs.engine.Engine.begin_merge.Goals as goal
 -- the merge was started from what was read of these stores
 begins : (g : given.Over) (c : In-Ok g) → BeginsMerge (state_of c.self.inside) c.in-Ok.merge
 begins g c = record {
-  none = subst (λ (v : EngineState). v.merging ≡ None) (sym c.self.view_is) c.requires.none;
-  some = some_stores (state_of c.self.inside).hashes _ c.is_empty.result c.is_empty.ensures c.if-is_empty.false c.self.inside.hashes.ok.0;
+  none = rw (← c.self.view_is) at c.requires.none;
+  some = some_stores _ _ _ c.is_empty.ensures c.if-is_empty.false c.self.inside.hashes.ok.0;
   whole = c.self.invariant.whole;
   region = 1 - c.region-region.result;
   other = ap (λ (n : ℕ). 1 - n) c.region-region.ensures.value;
@@ -29,7 +27,7 @@ begins g c = record {
 }
 
 stands : (g : given.Over) (c : In-Ok g) → Stands (g.D.Disk.content c.args.disk.now) (state_of c.self.inside)
-stands g c = subst (λ (v : EngineState). Stands (g.D.Disk.content c.args.disk.now) v) (sym c.self.view_is) c.requires.stands
+stands g c = rw (← c.self.view_is) at c.requires.stands
 
 gathered : (g : given.Over) (c : In-Ok g) → HasGathered (g.D.Disk.content c.args.disk.now) (state_of c.self.inside) c.in-Ok.merge
 unfolding begins
@@ -39,13 +37,12 @@ gathered g c = begun _ _ (begins g c) (g.D.Disk.content c.args.disk.now) (c.in-O
 pub step-requires-clause-shapes : goal.step-requires-clause-shapes
 step-requires-clause-shapes g c κs within =
     let way = started_way _ _ (begins g (goal.at.step-requires-clause-shapes g c).In-Ok) in
-    subst (λ (l : List HashState). All (λ (store : HashState). store.shape ≡ c.in-Ok.merge.shape) (oldest_stores c.in-Ok.merge.stores l))
-    (sym c.deref-2.ensures.value) (taken_shapes _ _ c.self.invariant.whole way)
+    rw (← c.deref-2.ensures.value) at (taken_shapes _ _ c.self.invariant.whole way)
 
 pub step-requires-clause-more : goal.step-requires-clause-more
 step-requires-clause-more g c κs within =
     let begun = begins g (goal.at.step-requires-clause-more g c).In-Ok in
-    subst (λ (t : SortedState). is_done c.in-Ok.merge t ≡ false) (sym c.entries-sorted.ensures) (started_not_done _ _ begun)
+    rw (← c.entries-sorted.ensures) at (started_not_done _ _ begun)
 
 pub returns-in_err-step-clause-err : goal.returns-in_err-step-clause-err
 returns-in_err-step-clause-err g c =
@@ -67,7 +64,7 @@ invariant_of-self g c =
     let way = way_after _ _ _ _ _ _ _ (stands g at) (started_way _ _ (begins g at)) step in
     let whole = c.self.invariant.whole in
     record {
-      whole = whole_with stores stores.manifest stores.converting (Some c.step.new.self) refl refl whole.under_way way whole;
+      whole = whole_with stores _ _ _ refl refl whole.under_way way whole;
       enough = c.self.invariant.enough;
       enough_hashes = c.self.invariant.enough_hashes;
     }
@@ -84,7 +81,7 @@ returns-clause-works g c =
     (step_made _ _ _ _ _ _ _ (stands g at) way step step.goes (started_written _ _ started)))
 
 pub returns-then-is_empty-clause-works : goal.returns-then-is_empty-clause-works
-returns-then-is_empty-clause-works g c = nothing_done g.D.Disk c.args.disk.now c.args.self.now _ c.requires.stands none_made
+returns-then-is_empty-clause-works g c = nothing_done g.D.Disk _ _ _ c.requires.stands none_made
 
 pub start-requires-clause-most : goal.start-requires-clause-most
 start-requires-clause-most g c =

@@ -6,19 +6,16 @@ use Rattle.silt_engine.proofs.engine.Engine.clear_region.Goals as goal
 
 pub returns-in_err-prepare-clause-err : goal.returns-in_err-prepare-clause-err
 returns-in_err-prepare-clause-err g c =
-    on_error c.from_residual.result c.in_err-prepare.field-0.0 _ c.from_residual.ensures.1
-    (broke_off g.D.Disk c.args.disk.now c.prepare.new.disk c.args.self.now c.args.self.now c.in_err-prepare.field-0.0
-    (same_disk c.prepare.ensures.wrote) c.requires.stands c.in_err-prepare.ensures.wrote.failures
-    (clear_advances _ _ c.args.self.now c.args.next.now c.requires.stands c.requires.next c.prepare.ensures.wrote.size c.prepare.ensures.wrote.changes))
+    on_error _ _ _ c.from_residual.ensures.1 (broke_off g.D.Disk _ _ _ _ _ (same_disk c.prepare.ensures.wrote) c.requires.stands
+    c.in_err-prepare.ensures.wrote.failures (clear_advances _ _ _ _ c.requires.stands c.requires.next c.prepare.ensures.wrote.size
+    c.prepare.ensures.wrote.changes))
 
 pub returns-clause-works : goal.returns-clause-works
-returns-clause-works g c = went_so g.D.Disk [] c.args.disk.now c.prepare.new.disk c.args.self.now c.args.self.now _
-    (same_disk c.prepare.ensures.wrote) c.requires.stands c.in_ok-prepare.ensures.wrote.failures
-    (clear_advances _ _ c.args.self.now c.args.next.now c.requires.stands c.requires.next c.prepare.ensures.wrote.size c.prepare.ensures.wrote.changes)
-    c.in_ok-prepare.ensures.wrote.made
+returns-clause-works g c = went_so g.D.Disk [] _ _ _ _ _ (same_disk c.prepare.ensures.wrote) c.requires.stands c.in_ok-prepare.ensures.wrote.failures
+    (clear_advances _ _ _ _ c.requires.stands c.requires.next c.prepare.ensures.wrote.size c.prepare.ensures.wrote.changes) c.in_ok-prepare.ensures.wrote.made
 
 pub returns-clause-emptied : goal.returns-clause-emptied
 returns-clause-emptied g c = clear_emptied (g.D.Disk.content c.args.disk.now) _ c.args.self.now c.args.next.now c.requires.next c.prepare.new.self c.in_ok-prepare.ensures.ok _ refl
 
 pub returns-clause-quiet : goal.returns-clause-quiet
-returns-clause-quiet g c = quiet _ c.args.self.now c.requires.quiet.settled
+returns-clause-quiet g c = quiet _ _ c.requires.quiet.settled

@@ -18,7 +18,7 @@ change_manifest-requires-clause-next g c κs within =
 
 pub returns-in_err-manifest-clause-err : goal.returns-in_err-manifest-clause-err
 returns-in_err-manifest-clause-err g c =
-    on_error c.from_residual-in_err-manifest.result c.in_err-manifest.field-0.0 _ c.from_residual-in_err-manifest.ensures.1
+    on_error _ _ _ c.from_residual-in_err-manifest.ensures.1
     (then_broke_off g.D.Disk _ _ _ _ _ _ _ _ c.in_ok-settle_work.ensures.works (same_disk c.change_manifest.ensures.wrote) c.in_err-manifest.ensures.wrote.failures)
 
 pub replace_oldest-requires : goal.replace_oldest-requires
@@ -41,19 +41,17 @@ returns-clause-rows g c = λ honest.
     let is = is_replaced g (goal.at.returns-clause-rows g c).After-replace_oldest in
     let settled = c.in_ok-settle_work.ensures in
     has_converted_rows _ _ _ _ settled.works.advances.stands settled.rests c.requires.ends _ c.change_manifest.ensures.wrote.size _ c.in_ok-manifest.ensures.ok
-    is.digest is.digested _ _ c.replace_oldest.ensures.whole is.is c.requires.stands honest
-    (honest_after (g.D.Disk.content c.args.disk.now) (g.D.Disk.content c.settle_work.new.disk) c.settle_work.ensures.works.same honest)
-    (settled.stores honest)
+    _ is.digested _ _ c.replace_oldest.ensures.whole is.is c.requires.stands honest (honest_after _ _ c.settle_work.ensures.works.same honest) (settled.stores
+    honest)
 
 pub returns-clause-finishes : goal.returns-clause-finishes
 returns-clause-finishes g c =
     let is = is_replaced g (goal.at.returns-clause-finishes g c).After-replace_oldest in
     let settled = c.in_ok-settle_work.ensures in
     converted_finishes _ _ _ _ settled.works.advances.stands settled.rests c.requires.ends _ c.change_manifest.ensures.wrote.size _ c.in_ok-manifest.ensures.ok
-    is.digest is.digested _ is.is
+    _ is.digested _ is.is
 
 pub returns-in_err-manifest-clause-works : goal.returns-in_err-manifest-clause-works
 returns-in_err-manifest-clause-works g c =
-    went_off g.D.Disk _ _ _ _ c.from_residual-in_err-manifest.result c.in_err-manifest.field-0.0 c.from_residual-in_err-manifest.ensures.1
-    (same_trans _ _ _ c.settle_work.ensures.works.same (same_disk c.change_manifest.ensures.wrote)) refl
-    (most_both c.settle_work.new.disk c.in_ok-settle_work.ensures.works.made c.in_err-manifest.ensures.wrote.made (omega arith) (omega arith))
+    went_off g.D.Disk _ _ _ _ _ _ c.from_residual-in_err-manifest.ensures.1 (same_trans _ _ _ c.settle_work.ensures.works.same (same_disk
+    c.change_manifest.ensures.wrote)) refl (most_both _ c.in_ok-settle_work.ensures.works.made c.in_err-manifest.ensures.wrote.made (omega arith) (omega arith))

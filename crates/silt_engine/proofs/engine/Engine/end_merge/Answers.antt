@@ -1,4 +1,4 @@
-use Rattle.silt_engine.proofs.Common.{◌≡◌, [], refl, Option, Ok, subst, arith, IfSome, ⊤, MergeState, sorted_replaced, most_both}
+use Rattle.silt_engine.proofs.Common.{◌≡◌, [], refl, Ok, arith, ⊤, sorted_replaced, most_both}
 use Rattle.silt_engine.proofs.engine.Engine.end_merge.Given as given
 use Rattle.silt_engine.proofs.Chains.{honest_after, same_trans}
 use Rattle.silt_engine.proofs.Exits.{on_error, both_went, same_disk, then_broke_off, went_off, went_so}
@@ -13,8 +13,7 @@ is_replaced g c =
     let settled = c.in_ok-settle_work.ensures in
     let may = may_stand_for _ _ _ _ _ settled.works.advances.stands settled.rests c.requires.ends.2 _ c.change_manifest.ensures.wrote.size _
     c.in_ok-manifest.ensures.ok in
-    subst (λ (o : Option MergeState). IfSome o (λ merge. c.replace_sorted.new.self ≡ sorted_replaced c.args.self.now c.in_ok-manifest.manifest merge.stores
-    c.requires.ends.0)) c.requires.ends.2.was (c.replace_sorted.ensures.replaced c.requires.ends.0 c.requires.ends.1 may)
+    rw c.requires.ends.2.was at (c.replace_sorted.ensures.replaced c.requires.ends.0 c.requires.ends.1 may)
 
 pub change_manifest-requires-clause-next : goal.change_manifest-requires-clause-next
 change_manifest-requires-clause-next g c κs within =
@@ -22,7 +21,7 @@ change_manifest-requires-clause-next g c κs within =
 
 pub returns-in_err-manifest-clause-err : goal.returns-in_err-manifest-clause-err
 returns-in_err-manifest-clause-err g c =
-    on_error c.from_residual-in_err-manifest.result c.in_err-manifest.field-0.0 _ c.from_residual-in_err-manifest.ensures.1
+    on_error _ _ _ c.from_residual-in_err-manifest.ensures.1
     (then_broke_off g.D.Disk _ _ _ _ _ _ _ _ c.in_ok-settle_work.ensures.works (same_disk c.change_manifest.ensures.wrote) c.in_err-manifest.ensures.wrote.failures)
 
 pub replace_sorted-requires : goal.replace_sorted-requires
@@ -55,12 +54,9 @@ returns-clause-entries g c = λ honest.
     let is = is_replaced g (goal.at.returns-clause-entries g c).After-replace_sorted in
     let settled = c.in_ok-settle_work.ensures in
     has_merged_entries _ _ _ _ _ settled.works.advances.stands settled.rests c.requires.ends.2 _ c.change_manifest.ensures.wrote.size _
-    c.in_ok-manifest.ensures.ok _ _ is c.requires.stands honest
-    (honest_after (g.D.Disk.content c.args.disk.now) (g.D.Disk.content c.settle_work.new.disk) c.settle_work.ensures.works.same honest)
-    (settled.stores honest)
+    c.in_ok-manifest.ensures.ok _ _ is c.requires.stands honest (honest_after _ _ c.settle_work.ensures.works.same honest) (settled.stores honest)
 
 pub returns-in_err-manifest-clause-works : goal.returns-in_err-manifest-clause-works
 returns-in_err-manifest-clause-works g c =
-    went_off g.D.Disk _ _ _ _ c.from_residual-in_err-manifest.result c.in_err-manifest.field-0.0 c.from_residual-in_err-manifest.ensures.1
-    (same_trans _ _ _ c.settle_work.ensures.works.same (same_disk c.change_manifest.ensures.wrote)) refl
-    (most_both c.settle_work.new.disk c.in_ok-settle_work.ensures.works.made c.in_err-manifest.ensures.wrote.made (omega arith) (omega arith))
+    went_off g.D.Disk _ _ _ _ _ _ c.from_residual-in_err-manifest.ensures.1 (same_trans _ _ _ c.settle_work.ensures.works.same (same_disk
+    c.change_manifest.ensures.wrote)) refl (most_both _ c.in_ok-settle_work.ensures.works.made c.in_err-manifest.ensures.wrote.made (omega arith) (omega arith))

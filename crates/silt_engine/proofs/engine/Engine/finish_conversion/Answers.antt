@@ -1,5 +1,4 @@
-use Rattle.silt_engine.proofs.Common.{◌≡◌, ◌<◌, length, Option, ap, sym, ◌∙◌, subst, arith, IfSome, length-map, Shape, ConversionState, Body, IsUnderWay}
-use Rattle.silt_engine.proofs.Common.{EngineState, region_of, Finished, convert_turn, converted_body}
+use Rattle.silt_engine.proofs.Common.{◌≡◌, length, ap, sym, ◌∙◌, subst, arith, length-map, Shape, Body, EngineState, region_of, Finished, convert_turn, converted_body}
 use Rattle.silt_engine.proofs.ConvertSteps.{may_finish}
 use Rattle.silt_engine.proofs.Counting.{before_last, hash_count, room_for_hash}
 use Rattle.silt_engine.proofs.Exits.{state_of, refused}
@@ -15,11 +14,10 @@ converted_body-body-requires-clause-hashed g c =
 pub converted_body-body-requires-clause-frozen : goal.converted_body-body-requires-clause-frozen
 converted_body-body-requires-clause-frozen g c =
     let stores : EngineState = state_of c.self.inside in
-    let going = subst (λ (o : Option ConversionState). IfSome o (IsUnderWay stores)) c.in-Some.is c.self.invariant.whole.under_way in
-    let some : 0 < length stores.frozen = going.some_frozen in
+    let going = rw c.in-Some.is at c.self.invariant.whole.under_way in
     let count : length c.current-current.result.frozen ≡ length stores.frozen =
-    ap (λ (b : Body). length b.frozen) c.current-current.ensures.value ∙ ap length (sym c.self.invariant.whole.frozen_regions) ∙ length-map stores.frozen region_of in
-    omega (arith, some, count)
+    cc (c.current-current.ensures.value, c.self.invariant.whole.frozen_regions, length-map stores.frozen region_of) in
+    omega (arith, going.some_frozen, count)
 
 pub digests_with-digests-requires : goal.digests_with-digests-requires
 digests_with-digests-requires g c =

@@ -12,5 +12,5 @@ returns-then-not-has_waiting-clause-works g c =
 
 pub returns-then-not-has_waiting-clause-quiet : goal.returns-then-not-has_waiting-clause-quiet
 returns-then-not-has_waiting-clause-quiet g c =
-    let stands = subst (λ (v : EngineState). Stands (g.D.Disk.content c.args.disk.now) v) (sym c.self.view_is) c.requires in
-    rw (← c.self.view_is) (quiet_when (g.D.Disk.content c.args.disk.now) (state_of c.self.inside) stands (sym c.has_waiting.ensures.value ∙ c.if-not-has_waiting.true))
+    let stands = rw (← c.self.view_is) at c.requires in
+    rw (← c.self.view_is) (quiet_when _ _ stands (sym c.has_waiting.ensures.value ∙ c.if-not-has_waiting.true))

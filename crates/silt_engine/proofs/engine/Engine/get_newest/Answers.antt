@@ -3,31 +3,26 @@ use Rattle.silt_engine.proofs.Waits.{active_waits, nothing_waits}
 use Rattle.silt_engine.proofs.engine.Engine.get_newest.Goals as goal
 
 pub returns-in-Some-clause-found : goal.returns-in-Some-clause-found
-returns-in-Some-clause-found g c = rw (← c.self.view_is) (λ stands honest. newest_active _ _ c.args.key.now.0 _ c.in-Some.found stands honest c.in_ok-found.ensures.last c.in-Some.is)
+returns-in-Some-clause-found g c = rw (← c.self.view_is) (λ stands honest. newest_active _ _ _ _ _ stands honest c.in_ok-found.ensures.last c.in-Some.is)
 
 pub returns-in-Some-clause-value : goal.returns-in-Some-clause-value
 returns-in-Some-clause-value g c = λ honest.
     active_value (g.D.Disk.content c.args.disk.now) _ c.args.self.now c.self.view_is _ c.in-Some.found _ c.in-Some.is (c.in_ok-found.ensures.value honest)
 
 pub returns-in-Some-2-clause-found : goal.returns-in-Some-2-clause-found
-returns-in-Some-2-clause-found g c = λ stands honest.
-    newest_frozen (g.D.Disk.content c.args.disk.now) _ c.args.self.now c.self.view_is c.args.key.now.0 _ c.in_ok-found.ensures.last (none_of _ c.in_default.not-Some)
-    c.in_ok-index.field-0 c.in_ok-index.ensures.found stands honest c.in-Some-2.index c.in-Some-2.found c.in_ok-index.ensures.there c.in-Some-2.is
+returns-in-Some-2-clause-found g c = λ stands honest. newest_frozen _ _ _ c.self.view_is _ _ c.in_ok-found.ensures.last (none_of _ c.in_default.not-Some) _
+    c.in_ok-index.ensures.found stands honest _ _ c.in_ok-index.ensures.there c.in-Some-2.is
 
 pub returns-in_default-3-clause-found : goal.returns-in_default-3-clause-found
-returns-in_default-3-clause-found g c = λ stands honest.
-    newest_nowhere (g.D.Disk.content c.args.disk.now) _ c.args.self.now c.self.view_is c.args.key.now.0 _ c.in_ok-found.ensures.last (none_of _ c.in_default.not-Some)
-    c.in_ok-index.field-0 c.in_ok-index.ensures.found stands honest (none_of _ c.in_default-2.not-Some) c.in_ok-number.field-0 c.in_ok-number.ensures.found (none_of _ c.in_default-3.not-Some)
+returns-in_default-3-clause-found g c = λ stands honest. newest_nowhere _ _ _ c.self.view_is _ _ c.in_ok-found.ensures.last (none_of _ c.in_default.not-Some) _
+    c.in_ok-index.ensures.found stands honest (none_of _ c.in_default-2.not-Some) _ c.in_ok-number.ensures.found (none_of _ c.in_default-3.not-Some)
 
 pub returns-clause-found : goal.returns-clause-found
-returns-clause-found g c = λ stands honest.
-    newest_hashed (g.D.Disk.content c.args.disk.now) _ c.args.self.now c.self.view_is c.args.key.now.0 _ c.in_ok-found.ensures.last (none_of _ c.in_default.not-Some)
-    c.in_ok-index.field-0 c.in_ok-index.ensures.found stands honest (none_of _ c.in_default-2.not-Some) c.in_ok-number.field-0 c.in_ok-number.ensures.found
-    c.in-Some-3.number c.in-Some-3.found c.in_ok-number.ensures.there c.in-Some-3.is
+returns-clause-found g c = λ stands honest. newest_hashed _ _ _ c.self.view_is _ _ c.in_ok-found.ensures.last (none_of _ c.in_default.not-Some) _
+    c.in_ok-index.ensures.found stands honest (none_of _ c.in_default-2.not-Some) _ c.in_ok-number.ensures.found _ _ c.in_ok-number.ensures.there c.in-Some-3.is
 
 pub returns-in-Some-clause-waits : goal.returns-in-Some-clause-waits
-returns-in-Some-clause-waits g c = λ stands honest.
-    active_waits (g.D.Disk.content c.args.disk.now) _ c.args.self.now c.self.view_is c.args.key.now.0 _ c.in_ok-found.ensures.last stands honest c.in-Some.found c.in-Some.is
+returns-in-Some-clause-waits g c = λ stands honest. active_waits _ _ _ c.self.view_is _ _ c.in_ok-found.ensures.last stands honest _ c.in-Some.is
 
 pub returns-in-Some-2-clause-waits : goal.returns-in-Some-2-clause-waits
 returns-in-Some-2-clause-waits g c = λ stands honest.

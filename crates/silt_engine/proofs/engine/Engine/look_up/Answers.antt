@@ -3,20 +3,16 @@ use Rattle.silt_engine.proofs.Walks.{found_delete, found_put, gets_none, gets_va
 use Rattle.silt_engine.proofs.engine.Engine.look_up.Goals as goal
 
 pub returns-in-Some-clause-found : goal.returns-in-Some-clause-found
-returns-in-Some-clause-found g c = λ stands is honest.
-    found_put (g.D.Disk.content c.args.disk.now) c.args.self.now c.args.key.now.0 _ _ c.in-Some.found _ (c.in_ok-holder.ensures.found stands honest) c.in-Some.is (c.in_ok-holder.ensures.value honest)
-    (cc)
+returns-in-Some-clause-found g c = λ stands is honest. found_put _ _ _ _ _ _ _ (c.in_ok-holder.ensures.found stands honest) c.in-Some.is
+    (c.in_ok-holder.ensures.value honest) (cc)
 
 pub returns-in-Some-clause-none : goal.returns-in-Some-clause-none
-returns-in-Some-clause-none g c = λ stands is honest.
-    found_delete (g.D.Disk.content c.args.disk.now) c.args.self.now c.args.key.now.0 _ _ c.in-Some.found (c.in_ok-holder.ensures.found stands honest) c.in-Some.is (cc)
+returns-in-Some-clause-none g c = λ stands is honest. found_delete _ _ _ _ _ _ (c.in_ok-holder.ensures.found stands honest) c.in-Some.is (cc)
 
 pub returns-in_ok-get-in-None-clause-found : goal.returns-in_ok-get-in-None-clause-found
-returns-in_ok-get-in-None-clause-found g c = λ stands is honest.
-    gets_value (g.D.Disk.content c.args.disk.now) _ c.args.self.now c.self.view_is c.args.key.now.0 _ c.in_ok-holder.ensures.found c.in-None.is stands honest c.get.new.out
+returns-in_ok-get-in-None-clause-found g c = λ stands is honest. gets_value _ _ _ c.self.view_is _ _ c.in_ok-holder.ensures.found c.in-None.is stands honest _
     (λ h nothing indexed. c.in_ok-get-in-None.ensures.found h nothing indexed (ap Ok is))
 
 pub returns-in_ok-get-in-None-clause-none : goal.returns-in_ok-get-in-None-clause-none
-returns-in_ok-get-in-None-clause-none g c = λ stands is honest.
-    gets_none (g.D.Disk.content c.args.disk.now) _ c.args.self.now c.self.view_is c.args.key.now.0 _ c.in_ok-holder.ensures.found c.in-None.is stands honest
-    (λ h nothing indexed. c.in_ok-get-in-None.ensures.none h nothing indexed (ap Ok is))
+returns-in_ok-get-in-None-clause-none g c = λ stands is honest. gets_none _ _ _ c.self.view_is _ _ c.in_ok-holder.ensures.found c.in-None.is stands honest (λ h
+    nothing indexed. c.in_ok-get-in-None.ensures.none h nothing indexed (ap Ok is))

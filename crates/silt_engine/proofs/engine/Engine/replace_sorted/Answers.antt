@@ -5,8 +5,8 @@ use Rattle.silt_engine.proofs.engine.Engine.replace_sorted.Goals as goal
 
 pub into_store-sorted-requires : goal.into_store-sorted-requires
 into_store-sorted-requires c =
-    let may = subst (λ (v : EngineState). MayStandFor v c.args.manifest c.requires.0) (sym c.self.view_is) c.requires.2 in
-    is_sealed (state_of c.self.inside) c.args.manifest c.requires.0 may c.in-Some.merge c.take.result c.take.ensures.value c.in-Some.is
+    let may = rw (← c.self.view_is) at c.requires.2 in
+    is_sealed _ _ _ may _ _ c.take.ensures.value c.in-Some.is
 
 pub invariant_of-self : goal.invariant_of-self
 invariant_of-self c =

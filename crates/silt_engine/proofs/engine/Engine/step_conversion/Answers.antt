@@ -1,4 +1,5 @@
-use Rattle.silt_engine.proofs.Common.{◌≡◌, ◌-◌, List, [], length, Option, Some, ap, sym, ◌∙◌, subst, option_copied, LogStoreState, ConversionState, AreWhole, EngineState, Stands, convert_turn, Moved}
+use Rattle.silt_engine.proofs.Common.{◌≡◌, ◌-◌, List, [], length, Option, Some, ap, sym, ◌∙◌, subst, option_copied, LogStoreState, ConversionState, AreWhole, EngineState, Stands}
+use Rattle.silt_engine.proofs.Common.{convert_turn, Moved}
 use Rattle.silt_engine.proofs.engine.Engine.step_conversion.Given as given
 use Rattle.std.specs.Prelude.{slice_get}
 use Rattle.silt_engine.specs.Conversion.{refusal_of_step}
@@ -10,10 +11,10 @@ use Rattle.silt_engine.proofs.engine.Engine.step_conversion.Goals as goal
 
 -- of these stores, before the step
 stands : (g : given.Over) (c : In-Some-last g) → Stands (g.D.Disk.content c.args.disk.now) (state_of c.self.inside)
-stands g c = subst (λ (v : EngineState). Stands (g.D.Disk.content c.args.disk.now) v) (sym c.self.view_is) c.requires.stands
+stands g c = rw (← c.self.view_is) at c.requires.stands
 
 turn : (g : given.Over) (c : In-Some-last g) → convert_turn (state_of c.self.inside) ≡ Moved
-turn g c = subst (λ (v : EngineState). convert_turn v ≡ Moved) (sym c.self.view_is) c.requires.turn
+turn g c = rw (← c.self.view_is) at c.requires.turn
 
 read : (g : given.Over) (c : In-Some-last g) → Some c.in-Some-last.log.now ≡ slice_get c.self.inside.frozen.items (length c.self.inside.frozen.items - 1)
 read g c = sym (ap option_copied c.in-Some-last.is) ∙ c.last.ensures.value ∙ ap (λ (l : List LogStoreState). slice_get l (length l - 1)) c.deref.ensures.value
@@ -37,15 +38,13 @@ pub returns-clause-works : goal.returns-clause-works
 returns-clause-works g c =
     let at = (goal.at.returns-clause-works g c).In-Some-last in
     let wrote = c.step.ensures.wrote in
-    rw (← c.self.view_is) (went_so g.D.Disk [] c.args.disk.now c.step.new.disk (state_of c.self.inside) _ _
-    (same_disk wrote) (stands g at) c.in_ok-step.ensures.wrote.failures
-    (next_advances _ _ (state_of c.self.inside) _ _ c.step.new.self (stands g at) (read g at) c.in-Some.is (turn g at) wrote.size wrote.changes
-    c.in_ok-step.ensures.ok c.step.ensures.written) c.in_ok-step.ensures.wrote.made)
+    rw (← c.self.view_is) (went_so g.D.Disk [] _ _ _ _ _ (same_disk wrote) (stands g at) c.in_ok-step.ensures.wrote.failures (next_advances _ _ _ _ _ _ (stands
+    g at) (read g at) c.in-Some.is (turn g at) wrote.size wrote.changes c.in_ok-step.ensures.ok c.step.ensures.written) c.in_ok-step.ensures.wrote.made)
 
 pub step-requires-clause-more : goal.step-requires-clause-more
 step-requires-clause-more g c κs within =
     let at = (goal.at.step-requires-clause-more g c).In-Some-last in
-    moves_below (state_of c.self.inside) _ c.in-Some.is (way _ _ (stands g at) _ c.in-Some.is) (turn g at)
+    moves_below _ _ c.in-Some.is (way _ _ (stands g at) _ c.in-Some.is) (turn g at)
 
 pub invariant_of-self : goal.invariant_of-self
 invariant_of-self g c =
@@ -58,11 +57,11 @@ pub invariant_of-self-2 : goal.invariant_of-self-2
 invariant_of-self-2 g c =
     let at = (goal.at.invariant_of-self-2 g c).In-Some-last in
     let wrote = c.step.ensures.wrote in
-    let goes = next_advances _ _ (state_of c.self.inside) _ _ c.step.new.self (stands g at) (read g at) c.in-Some.is (turn g at) wrote.size wrote.changes
+    let goes = next_advances _ _ _ _ _ _ (stands g at) (read g at) c.in-Some.is (turn g at) wrote.size wrote.changes
     c.in_ok-step.ensures.ok c.step.ensures.written in
     record { whole = goes.stands.whole; enough = c.self.invariant.enough; enough_hashes = c.self.invariant.enough_hashes }
 
 pub returns-clause-converts : goal.returns-clause-converts
 returns-clause-converts g c =
     let at = (goal.at.returns-clause-converts g c).In-Some-last in
-    rw (← c.self.view_is) (next_converts (state_of c.self.inside) _ c.step.new.self _ c.in-Some.is (turn g at) c.in_ok-step.ensures.ok.next)
+    rw (← c.self.view_is) (next_converts _ _ _ _ c.in-Some.is (turn g at) c.in_ok-step.ensures.ok.next)

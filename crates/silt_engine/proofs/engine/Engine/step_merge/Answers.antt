@@ -1,8 +1,9 @@
-use Rattle.silt_engine.proofs.Common.{◌≡◌, List, [], Option, Some, refl, ap, sym, ◌∙◌, subst, All, IfSome, HashState, MergeState, oldest_stores, TakesMemory}
-use Rattle.silt_engine.proofs.Common.{EngineState, Stands, written_by_merge, damaged_in, merge_turn, Moved, HasGathered, IsMerging}
+use Rattle.silt_engine.proofs.Common.{◌≡◌, [], Option, Some, refl, ap, sym, ◌∙◌, subst, IfSome, MergeState, oldest_stores, TakesMemory, EngineState, Stands, written_by_merge, damaged_in}
+use Rattle.silt_engine.proofs.Common.{merge_turn, Moved, HasGathered, IsMerging}
 use Rattle.silt_engine.proofs.engine.Engine.step_merge.Given as given
 use Rattle.silt_engine.specs.Merge.{refusal_of_step}
-use Rattle.silt_engine.proofs.MergeSteps.{failed_map, found_by, gathered_of, merging_of, most_made, next_merges, step_advances, step_cause, step_disk, step_made, steps_in, taken_shapes, way_after}
+use Rattle.silt_engine.proofs.MergeSteps.{failed_map, found_by, gathered_of, merging_of, most_made, next_merges, step_advances, step_cause, step_disk, step_made, steps_in, taken_shapes}
+use Rattle.silt_engine.proofs.MergeSteps.{way_after}
 use Rattle.silt_engine.proofs.Exits.{on_error, state_of, went, went_off}
 use Rattle.silt_engine.proofs.Wholes.{whole_with}
 use Rattle.silt_engine.proofs.engine.Engine.step_merge.Goals.{In-Some}
@@ -13,19 +14,18 @@ way : (g : given.Over) (c : In-Some g) → IsMerging (state_of c.self.inside) c.
 way g c = merging_of _ _ c.self.invariant.whole c.in-Some.is
 
 stands : (g : given.Over) (c : In-Some g) → Stands (g.D.Disk.content c.args.disk.now) (state_of c.self.inside)
-stands g c = subst (λ (v : EngineState). Stands (g.D.Disk.content c.args.disk.now) v) (sym c.self.view_is) c.requires.stands
+stands g c = rw (← c.self.view_is) at c.requires.stands
 
 gathered : (g : given.Over) (c : In-Some g) → HasGathered (g.D.Disk.content c.args.disk.now) (state_of c.self.inside) c.in-Some.merge
 gathered g c = gathered_of _ _ _ (stands g c) c.in-Some.is
 
 turn : (g : given.Over) (c : In-Some g) → merge_turn (state_of c.self.inside) ≡ Moved
-turn g c = subst (λ (v : EngineState). merge_turn v ≡ Moved) (sym c.self.view_is) c.requires.turn
+turn g c = rw (← c.self.view_is) at c.requires.turn
 
 pub step-requires-clause-shapes : goal.step-requires-clause-shapes
 step-requires-clause-shapes g c κs within =
     let shapes = taken_shapes _ _ c.self.invariant.whole (way g (goal.at.step-requires-clause-shapes g c).In-Some) in
-    subst (λ (l : List HashState). All (λ (store : HashState). store.shape ≡ c.in-Some.merge.shape) (oldest_stores c.in-Some.merge.stores l))
-    (sym c.deref.ensures.value) shapes
+    rw (← c.deref.ensures.value) at shapes
 
 pub returns-in_err-step-clause-err : goal.returns-in_err-step-clause-err
 returns-in_err-step-clause-err g c =
@@ -38,9 +38,8 @@ returns-in_err-step-clause-err g c =
     let remaps = failed_map _ _ _ _ _ _ _ (stands g at) (way g at) step (Some c.step.new.self) in
     let lacks = subst (λ (o : Option MergeState). IfSome o (λ merge. TakesMemory (g.D.Disk.content c.args.disk.now) (oldest_stores merge.stores stores.hashes)
     stores.sorted merge)) (sym c.in-Some.is) in
-    rw (← c.self.view_is) (on_error c.from_residual.result (refusal_of_step c.in_err-step.field-0.0) _ c.from_residual.ensures.1
-    (step_cause _ _ _ _ _ _ _ (stands g at) (way g at) step after (turn g at) (gathered g at) same lacks
-    (λ place found. ap damaged_in c.in-Some.is ∙ found) remaps c.in_err-step.field-0.0 step.fails))
+    rw (← c.self.view_is) (on_error _ _ _ c.from_residual.ensures.1 (step_cause _ _ _ _ _ _ _ (stands g at) (way g at) step after (turn g at) (gathered g at)
+    same lacks (λ place found. ap damaged_in c.in-Some.is ∙ found) remaps c.in_err-step.field-0.0 step.fails))
 
 pub invariant_of-self : goal.invariant_of-self
 invariant_of-self g c =
@@ -50,7 +49,7 @@ invariant_of-self g c =
     let after = way_after _ _ _ _ _ _ _ (stands g at) (way g at) step in
     let whole = c.self.invariant.whole in
     record {
-      whole = whole_with stores stores.manifest stores.converting (Some c.step.new.self) refl refl whole.under_way after whole;
+      whole = whole_with stores _ _ _ refl refl whole.under_way after whole;
       enough = c.self.invariant.enough;
       enough_hashes = c.self.invariant.enough_hashes;
     }
@@ -63,7 +62,7 @@ invariant_of-self-2 g c =
     let after = way_after _ _ _ _ _ _ _ (stands g at) (way g at) step in
     let whole = c.self.invariant.whole in
     record {
-      whole = whole_with stores stores.manifest stores.converting (Some c.step.new.self) refl refl whole.under_way after whole;
+      whole = whole_with stores _ _ _ refl refl whole.under_way after whole;
       enough = c.self.invariant.enough;
       enough_hashes = c.self.invariant.enough_hashes;
     }
