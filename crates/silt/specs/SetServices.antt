@@ -6,7 +6,7 @@ use Rattle.silt_disk.specs.Layout.{Shape}
 use Rattle.silt_disk.specs.declared.disk.Disk.{Ghosts}
 use Rattle.silt_device.specs.declared.source.DiskSource.{Ghosts as SourceOf}
 use Rattle.silt_event.specs.declared.refusal.Refusal.TheVariants.{NoMemory as OutOfMemory}
-use Rattle.silt_server.specs.Serving.{BreaksServing, ServesSetAt, network_text}
+use Rattle.silt_server.specs.Serving.{BreaksServing, LeavesEach, ServesSetAt, network_text}
 use Rattle.silt_shards.specs.Opening.{AreOfOneShape, AreShards, IsRefusedSet}
 use Rattle.silt_shards.specs.Routing.{IsShardCount}
 use Rattle.silt_shards.specs.declared.fault.SetCause.{SetCause}
@@ -80,12 +80,12 @@ module _ {D E F : Type 0} (facts : Ghosts D F) (Failed : D → Failures → Type
 
   -- One of the disks was refused, as it is not the shard that is due, or no store was opened on it, and no disk is left. Or all are, in their
   -- order, the shards of one set, and their stores were opened and served. Then each possible crash image of each disk that is left represents
-  -- one map after some first part of one list of commands.
+  -- one map after some first part of one list of commands, and some calls lead to each of these disks from the store that was opened on it.
   abbrev pub ServesOpening : Bool → List D → List D → Ended E F → Option (List ℕ) → Option (List ℕ) → Type 0
   ServesOpening bound disks left ended before after =
       ((left ≡ []) × ((shard : ℕ) × (kept : D) × (cause : SetCause F) × IsRefusedSet facts disks shard kept cause × RefusesFault shard cause ended before after))
       ⊎ (AreShards facts disks × ((cores : List (CoreState D)) × AreOfOneShape cores × AllZip (λ disk core. Opens facts (facts.content disk) core) disks cores
-      × ServesShards bound cores left ended before after × All (λ disk. (shape : Shape) × LeavesBegun (facts.content disk) shape) left))
+      × ServesShards bound cores left ended before after × All (λ disk. (shape : Shape) × LeavesBegun (facts.content disk) shape) left × LeavesEach facts cores left))
 
   -- The port was bound before the opening, or people were told why not. Then the set on these disks was served, each with what the source gave.
   abbrev pub ServesDisks : (List ℕ → Urgent → Type 0) → Type 0 → List D → List D → Ended E F → Option (List ℕ) → Option (List ℕ) → Type 0

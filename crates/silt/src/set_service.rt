@@ -5,6 +5,7 @@ ghost use Rattle.silt_disk.specs.Layout.{Shape};
 ghost use Rattle.silt_store_set.specs.CoreInvariant.{LeavesBegun};
 ghost use Rattle.silt_shards.specs.Routing.{IsShardCount, most_shards};
 ghost use Rattle.silt_shards.specs.Sets.{AreAlike};
+ghost use Rattle.silt_server.specs.Serving.{LeavesEach};
 ghost use Rattle.silt_jobs.specs.Ended.{HasFailed};
 ghost use Rattle.silt.specs.Services.{least_merged};
 ghost use Rattle.silt.specs.SetServices.{FailedAmong, RefusesFault, ServesDisks, ServesEntered, ServesSet, ServesShards};
@@ -160,6 +161,7 @@ fn serve_shards<
     ensures served { ServesShards D.Disk (HasFailed D.kept_read D.last_failure) service.now (is_some entrance) cores.items result.0.items result.1
         (W.contents writer.old) (W.contents writer.new) }
     ensures left { All (λ disk. (shape : Shape) × LeavesBegun (D.content disk) shape) result.0.items }
+    ensures led { LeavesEach D.Disk cores.items result.0.items }
 {
     let alloc = rt.alloc();
     if let Some(hashes) = few_regions(cores.as_slice(), service.merge_at) {
@@ -202,6 +204,7 @@ fn serve_entered<
     ensures served { ServesEntered D.Disk (HasFailed D.kept_read D.last_failure) (vec_len cores) result.0.items result.1
         (W.contents writer.old) (W.contents writer.new) }
     ensures left { All (λ disk. (shape : Shape) × LeavesBegun (D.content disk) shape) result.0.items }
+    ensures led { LeavesEach D.Disk cores.items result.0.items }
 {
     let alloc = rt.alloc();
     let board = Board::new(rt, service.backup.is_some());

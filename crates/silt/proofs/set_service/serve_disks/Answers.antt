@@ -9,7 +9,7 @@ returns-in-Ok g c = (
   (
     c.report_each-disks.result.items,
     c.report_each-disks.ensures,
-    inr (c.in-Ok.ensures.shards, (c.in-Ok.cores.items, c.in-Ok.ensures.shape, c.in-Ok.ensures.opens, c.serve_shards.ensures.served, c.serve_shards.ensures.left)),
+    inr (c.in-Ok.ensures.shards, (c.in-Ok.cores.items, c.in-Ok.ensures.shape, c.in-Ok.ensures.opens, c.serve_shards.ensures.served, c.serve_shards.ensures.left, c.serve_shards.ensures.led)),
   ),
 )
 
