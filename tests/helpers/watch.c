@@ -14,7 +14,7 @@
 //     SILT_WATCH_SLOW=CALL:N:M     that call begins M milliseconds later
 //     SILT_WATCH_HOLD=CALL:N:FILE  that call begins when there is such a file; of `thread` the thread that it starts does
 //     SILT_WATCH_DROP=CALL[:N]     those calls are not made and report success; no record has them
-//     SILT_WATCH_COUNTS=FILE       at the end, one line `CALL NUMBER` for each name
+//     SILT_WATCH_COUNTS=FILE       at the end, one line `CALL NUMBER` for each name, and `freed BYTES`
 //     SILT_WATCH_LISTS=1           watches the system's lists of file systems too
 //
 // Files in which the system lists file systems, as /proc/self/mountinfo, are left alone without that: their calls are not
@@ -23,7 +23,8 @@
 // `open` is open and openat. `accept` is accept and accept4. `rename` is rename, renameat and renameat2.
 // `unlink` is unlink and unlinkat. `stat` is statx. `thread` is pthread_create. `memory`
 // is malloc, calloc, realloc, aligned_alloc, memalign and posix_memalign, also if the C library
-// calls them. A program with its own allocator, as one with a memory checker, makes none of these.
+// calls them. A program with its own allocator, as one with a memory checker, makes none of these. The bytes of `freed` are
+// those of the largest block of memory that was freed.
 //
 // The record's order. Calls that change a file are made one at a time and recorded as they end.
 // Writes to the standard output and to sockets are recorded as they begin. So a sync that is
@@ -34,6 +35,7 @@
 #include <errno.h>
 #include <fcntl.h>
 #include <limits.h>
+#include <malloc.h>
 #include <pthread.h>
 #include <stdarg.h>
 #include <stdatomic.h>
@@ -91,7 +93,7 @@ static struct plan plans[64];
 static int plan_count, log_fd = -1, is_started, watches_lists;
 // Which descriptors are those of lists of file systems that are left alone.
 static atomic_char is_list[1024];
-static atomic_long counts[CALLS], threads;
+static atomic_long counts[CALLS], threads, freed;
 // The number of this thread, from 1 in the order of their starts, and how many calls it made. They need no memory.
 static __thread long own_number __attribute__((tls_model("initial-exec"))), own_counts[CALLS] __attribute__((tls_model("initial-exec")));
 static pthread_mutex_t lock = PTHREAD_MUTEX_INITIALIZER;
@@ -593,6 +595,12 @@ int posix_memalign(void **made, size_t align, size_t len) {
     return 0;
 }
 
+void free(void *block) {
+    long size = block ? malloc_usable_size(block) : 0, most = freed;
+    while (most < size && !atomic_compare_exchange_weak(&freed, &most, size)) {}
+    __libc_free(block);
+}
+
 // Writes the counts, once: when the program returns from main, or when it ends at once.
 __attribute__((destructor)) static void write_counts(void) {
     static atomic_int is_written;
@@ -600,6 +608,7 @@ __attribute__((destructor)) static void write_counts(void) {
     if (!path || atomic_exchange(&is_written, 1)) return;
     int fd = real_openat(AT_FDCWD, path, O_WRONLY | O_CREAT | O_TRUNC | O_CLOEXEC, 0666);
     for (int i = 0; i < CALLS; i++) dprintf(fd, "%s %ld\n", call_names[i], (long)counts[i]);
+    dprintf(fd, "freed %ld\n", (long)freed);
     real_close(fd);
 }
 

@@ -331,6 +331,25 @@ class Servers(MemoryCase):
                 self.judge_server(*ended)
 
 
+# From this size on the C library gives a block a mapping of its own.
+MAPPED = 128 * 1024
+
+
+class Freed(MemoryCase):
+    """The C library takes blocks from its heaps that are no larger than any mapping that was freed,
+    and these heaps keep what is freed. So no block is freed while it is large."""
+
+    def test_an_index(self):
+        keys = 400_000
+        store = self.store(self.silt("plan", keys, 4).lines[0])
+        lines = "".join(f"put ={number} 00112233\n" for number in range(keys))
+        ran = self.silt("run", "--tend", "store", text=lines, env=watching(self, counts="counts"))
+        self.assertEqual((ran.status, ran.out.count("accepted ")), (0, keys))
+        merged = int(re.search(r"^sorted entries (\d+)$", self.silt("check", store).out, re.M)[1])
+        self.assertGreater(merged * 6 // 8, MAPPED)  # an index has six bits a key and more
+        self.assertLess(read_counts(self.path("counts"))["freed"], MAPPED)
+
+
 # Tests that pass whichever of their requests is refused: a refused call changes nothing, and is
 # asked again.
 PROGRAMS = {

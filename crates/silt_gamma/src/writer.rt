@@ -9,7 +9,6 @@ use std::marker::Model;
 
 /// Bits in memory, in the order of appending. They fill bytes from the highest bit of the first byte
 /// on. In contracts it is the list of its bits.
-#[derive(Drop)]
 pub struct BitWriter {
     bytes: Vec<u8>,
     len: usize,
@@ -21,6 +20,16 @@ impl Model for BitWriter {
     ghost view = { λ w. first_bits w.len w.bytes.items };
 
     ghost invariant = { λ w. IsFilledTo w.len w.bytes.items };
+}
+
+impl Drop for BitWriter {
+    // An array that is large gets a mapping of its own from the C library. When that is freed as it is, the library takes
+    // arrays of up to this size from its heaps from then on, and these keep what is freed. So it is made small first.
+    fn drop(self) {
+        let Self { mut bytes, len: _ } = self;
+        bytes.clear();
+        bytes.shrink_to(1);
+    }
 }
 
 impl BitWriter {
