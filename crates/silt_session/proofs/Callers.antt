@@ -1,31 +1,21 @@
 -- Who calls from a seat stays, over any calls.
-use Rattle.std.proofs.Common.{◌≡◌, ◌⊎◌, inl, inr, ℕ, zero, suc, Bool, true, false, Option, Some, None, Err, ◌∙◌, ap}
-use Rattle.std.specs.Prelude.{MatchBool}
-use Rattle.silt_disk.specs.declared.disk.Disk.{Ghosts}
-use Rattle.silt_event.specs.declared.event.Event.{Event}
+use Rattle.silt_session.proofs.Common.{◌≡◌, inl, inr, ℕ, zero, suc, ◌∙◌, ap, Option, Some, None, Err, cases_Bool, Ghosts, Event, NoRoom, Reply, change_reply, swap_reply, DeskState, Serves}
+use Rattle.silt_session.proofs.Common.{SeatState, FindsNoRoom, PerformsLast, Performs, Answer, Flushed, Request, Delete, Swap}
+use Rattle.silt_store_set.specs.Replies.{flush_reply}
+use Rattle.silt_session.specs.Batches.{FindsNoRoomTimes, TriesAgain}
+use Rattle.silt_session.specs.Origins.{Flushes}
+use Rattle.silt_session.specs.declared.job.Request.TheVariants.{Put, Flush}
 use Rattle.silt_event.specs.declared.event.Event.TheVariants as event
-use Rattle.silt_event.specs.declared.refusal.Refusal.TheVariants.{NoRoom}
-use Rattle.silt_event.specs.declared.reply.Reply.{Reply}
-use Rattle.silt_store_set.specs.Replies.{change_reply, flush_reply, swap_reply}
-use Rattle.silt_desk.specs.DeskState.{DeskState, Records, Refuses, Serves}
 use Rattle.silt_desk.specs.History.{is_recorded}
-use Rattle.silt_desk.specs.Seats.{SeatState}
 use Rattle.silt_desk.specs.declared.trace.Trace.{Ghosts as TraceOf}
-use Rattle.silt_session.specs.Batches.{FindsNoRoom, FindsNoRoomTimes, PerformsLast, TriesAgain}
-use Rattle.silt_session.specs.Origins.{Flushes, Performs}
-use Rattle.silt_session.specs.Requests.{Answer, Flushed}
-use Rattle.silt_session.specs.declared.job.Request.{Request}
-use Rattle.silt_session.specs.declared.job.Request.TheVariants.{Put, Delete, Swap, Flush}
 
 module _ {D F T : Type 0} (facts : Ghosts D F) (trace : TraceOf T) where
   serves_caller : (old new : DeskState D T) (seat after : SeatState) (e : Event) (reply : Reply F)
       → Serves facts trace old new seat after e reply → after.caller ≡ seat.caller
-  serves_caller old new seat after e reply serves =
-      let go : (b : Bool) → MatchBool b (Records facts trace old new seat after e reply) (Refuses facts trace old new seat after e reply) → after.caller ≡ seat.caller = elim [
-        | true ↦ λ records. records.seated.caller
-        | false ↦ λ refuses. ap (λ (s : SeatState). s.caller) refuses.seated
-      ] in
-      go (is_recorded reply) serves
+  serves_caller old new seat after e reply serves = elim (cases_Bool (is_recorded reply)) [
+    | inl is ↦ let records = rw is at serves in records.seated.caller
+    | inr is ↦ let refuses = rw is at serves in ap (λ (s : SeatState). s.caller) refuses.seated
+  ]
 
   performs_caller : (old new : DeskState D T) (seat after : SeatState) (request : Request) (answer : Option Answer)
       → Performs facts trace old new seat after request answer → after.caller ≡ seat.caller
@@ -51,13 +41,8 @@ module _ {D F T : Type 0} (facts : Ghosts D F) (trace : TraceOf T) where
 
   pub again_caller : (is_over : Type 0) (seat after : SeatState) (request : Request) (answer : Option Answer) → TriesAgain facts trace is_over seat request answer after
       → after.caller ≡ seat.caller
-  again_caller is_over seat after request answer all =
-      let go : PerformsLast facts trace all.1 request answer after ⊎ ((answer ≡ Some (Err NoRoom)) × FindsNoRoom facts trace all.1 request after × ((all.0 ≡ 6) ⊎ is_over))
-      → after.caller ≡ (all.1).caller = elim [
-        | inl does ↦ last_caller all.1 after request answer does
-        | inr none ↦ none_caller all.1 after request none.1
-      ] in
-      go all.4 ∙ times_caller all.0 seat all.1 request all.3
+  again_caller is_over seat after request answer (times, mid, few, tried, inl does) = last_caller mid after request answer does ∙ times_caller times seat mid request tried
+  again_caller is_over seat after request answer (times, mid, few, tried, inr none) = none_caller mid after request none.1 ∙ times_caller times seat mid request tried
 
   pub flush_caller : (old new : DeskState D T) (seat after : SeatState) (answer : Flushed) → Flushes facts trace old new seat after answer → after.caller ≡ seat.caller
   flush_caller old new seat after answer does = serves_caller old new seat after event.Flush (flush_reply does.0) does.2

@@ -1,11 +1,8 @@
 -- Replies to events that a client asks at once.
-use Rattle.std.proofs.Common.{◌≡◌, ◌≢◌, ◌⊎◌, ℕ, suc, List, [], ◌∷◌, Some, length, inl, inr, refl, subst, arith}
-use Rattle.std.specs.List.{AllZip}
-use Rattle.std.specs.Prelude.{IfOk, Result, Ok, Err, replicate, slice_get, true}
-use Rattle.silt_event.specs.Events.{AnswersEach, PlainReply}
-use Rattle.silt_event.specs.declared.event.Event.{Event}
-use Rattle.silt_session.specs.Sessions.{AnswersClient, ArePaired, ClientState, IsWithout}
-use Rattle.silt_session.specs.Unanswered.{reply_without}
+use Rattle.silt_session.proofs.Common.{◌≡◌, ◌≢◌, ◌⊎◌, ℕ, suc, List, [], ◌∷◌, length, inl, inr, refl, arith, IfOk, Some, Result, Ok, Err, replicate, slice_get, true, AllZip, PlainReply}
+use Rattle.silt_session.proofs.Common.{Event, AnswersClient, reply_without}
+use Rattle.silt_event.specs.Events.{AnswersEach}
+use Rattle.silt_session.specs.Sessions.{ArePaired, ClientState, IsWithout}
 use Rattle.silt_session.specs.declared.unanswered.Unanswered.{Unanswered}
 use Rattle.silt_session.specs.declared.unanswered.Unanswered.TheVariants.{Lost, NoMemory}
 
@@ -14,8 +11,7 @@ pub zip_places : {X Y : Type 0} (R : X → Y → Type 0) (xs : List X) (ys : Lis
     → ((i : ℕ) (x : X) (y : Y) → slice_get xs i ≡ Some x → slice_get ys i ≡ Some y → R x y) → AllZip R xs ys
 zip_places R [] [] len each = tt
 zip_places R (x ∷ xs) (y ∷ ys) len each = (each 0 x y refl refl, zip_places R xs ys (omega (arith, len)) (λ i a b at_xs at_ys. each (suc i) a b at_xs at_ys))
-zip_places R [] (y ∷ ys) len each = omega (arith, len)
-zip_places R (x ∷ xs) [] len each = omega (arith, len)
+zip_places R xs ys len each = absurd (omega (arith, len))
 
 -- the reply that is given to one event
 pub given_one : {E B X : Type 0} (now : B → X) (given : Result PlainReply E × X) (told : X) (by : B) (Gave : B → Result PlainReply E × X → Type 0) (More : PlainReply → B → Type 0)
@@ -29,22 +25,20 @@ pub given_all : {E B X V : Type 0} (now : B → X) (events : List Event) (given 
     → ((e : Event) (r : PlainReply) (x : B) → Gave x (Ok v) → ArePaired events (items v) e r → P e r x)
     → AllZip (λ e r. (x : B) × ((now x ≡ told) ⊎ (next ≡ told)) × P e r x) events (items v)
 given_all {E} {B} {X} {V} now events given next told by Gave items v P is same gave long pack =
-    zip_places _ events (items v) long (λ i e r at_event at_reply. (by, inl is, pack e r by (subst (λ (x : Result V E). Gave by x) same gave) (i, at_event, at_reply)))
+    zip_places _ events (items v) long (λ i e r at_event at_reply. (by, inl is, pack e r by (rw same at gave) (i, at_event, at_reply)))
 
 module _ {A : Type 0} (gives : A → A → Event → PlainReply → Type 0) where
   again_each : (client : ClientState A) (events : List Event) (replies : List PlainReply) → AllZip (gives client.asking client.asking) events replies
       → AnswersEach (AnswersClient gives) client events replies client
   again_each client [] [] all = refl
   again_each client (e ∷ events) (r ∷ replies) all = (client, inr (inr all.0), again_each client events replies all.1)
-  again_each client [] (r ∷ replies) all = absurd all
-  again_each client (e ∷ events) [] all = absurd all
+  again_each client events replies all = absurd all
 
   given_again : ((a b : A) (e : Event) (r : PlainReply) → gives a b e r → gives b b e r) → (a b : A) (events : List Event) (replies : List PlainReply)
       → AllZip (gives a b) events replies → AllZip (gives b b) events replies
   given_again law a b [] [] all = tt
   given_again law a b (e ∷ events) (r ∷ replies) all = (law a b e r all.0, given_again law a b events replies all.1)
-  given_again law a b [] (r ∷ replies) all = absurd all
-  given_again law a b (e ∷ events) [] all = absurd all
+  given_again law a b events replies all = absurd all
 
   -- each event has the reply that is given to it
   pub given_each : ((a b : A) (e : Event) (r : PlainReply) → gives a b e r → gives b b e r) → (old new : ClientState A) (events : List Event) (replies : List PlainReply) → events ≢ []

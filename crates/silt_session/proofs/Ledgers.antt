@@ -1,20 +1,17 @@
 -- What sessions are told, all together: each accepted command is a call of the log, made for one session, at a place of its own.
-use Rattle.std.proofs.Common.{◌≡◌, ◌≢◌, ◌⊎◌, inl, inr, ℕ, ◌+◌, ◌-◌, ◌<◌, ◌≤◌, ◌==◌, cond, All, List, [], ◌∷◌, drop, drop-drop, length}
-use Rattle.std.proofs.Common.{refl, sym, ◌∙◌, ap, subst, arith, IfSome, MatchOption, Option, Some, None, slice_get, sum_by}
-use Rattle.std.proofs.lemmas.Bool.{cases_eq, cond-false, cond-true, eq-eqb, ne_eqb}
+use Rattle.silt_session.proofs.Common.{◌≡◌, ◌≢◌, ◌⊎◌, inl, inr, ℕ, ◌+◌, ◌<◌, ◌≤◌, List, [], ◌∷◌, drop, length, refl, sym, ◌∙◌, ap, arith, All, IfSome, MatchOption, Option, Some, None}
+use Rattle.silt_session.proofs.Common.{slice_get, cases_eq, IsPrefix, PlainReply, Event, Caller, ToldState, own_reply}
+use Rattle.std.proofs.Common.{◌-◌, ◌==◌, cond, drop-drop, sum_by}
+use Rattle.std.proofs.lemmas.Bool.{cond-false, cond-true, eq-eqb, ne_eqb}
+use Rattle.silt_session.specs.Tolds.{ExtendsCalls, HasCallAt, RisesThrough, TakesPlace}
 use Rattle.std.proofs.lemmas.List.{drop_at}
 use Rattle.std.proofs.lemmas.List.Elements.{All-head, All-tail}
 use Rattle.std.proofs.lemmas.List.Sums.{sum_by-append, sum_by-cons, sum_by-drop_more, sum_by-le, sum_by-le-sum_by, sum_by-take-drop}
 use Rattle.std.proofs.lemmas.Option.{get_or_from_slice_get, slice_get_within}
-use mathlib.Core.List.{IsPrefix}
-use Rattle.silt_event.specs.Events.{PlainReply}
-use Rattle.silt_event.specs.declared.event.Event.{Event}
 use Rattle.silt_event.specs.declared.event.Event.TheVariants as event
-use Rattle.silt_desk.specs.declared.call.Caller.{Caller}
 use Rattle.silt_desk.specs.declared.call.RecordedCall.{RecordedCall}
 use Rattle.silt_desk.specs.CallLogs.{IsMadeFor}
 use Rattle.silt_desk.specs.History.{accepted_by, call, count_accepted}
-use Rattle.silt_session.specs.Tolds.{ExtendsCalls, HasCallAt, RisesThrough, TakesPlace, ToldState, own_reply}
 use Rattle.silt_session.specs.Ledgers.{AreApart, LedgerLaw, Read, Reader, ReadsOn, accepted_among, accepted_in, own_accepted}
 
 -- ---- sums
@@ -95,8 +92,7 @@ module _ (session : ℕ) where
       → accepted_among events replies ≤ count_for (drop next calls)
   counts_among calls next after [] [] rises = omega arith
   counts_among calls next after (e ∷ events) (reply ∷ replies) (mid, takes, rest) = omega (arith, counts_own calls next mid e reply takes, counts_among calls mid after events replies rest)
-  counts_among calls next after [] (reply ∷ replies) rises = absurd rises
-  counts_among calls next after (e ∷ events) [] rises = absurd rises
+  counts_among calls next after events replies rises = absurd rises
 
   -- the same of calls that were told, if any were
   abbrev count_told : Option (List RecordedCall) → ℕ
@@ -122,7 +118,7 @@ module _ (session : ℕ) where
   counts_reads log told [] is on = omega arith
   counts_reads log told (read ∷ reads) is (asks, order, begins, on) =
       let same : read.told.session ≡ session = asks.session ∙ is in
-      let rises = subst (λ (n : ℕ). IfSome read.told.calls (λ calls. RisesThrough n read.told.from calls read.events read.replies read.told.next)) same order in
+      let rises = rw same at order in
       let one = counts_read log read read.told.from told.calls read.told.calls asks.from asks.calls rises begins in
       omega (arith, one.0, one.1, counts_reads log read.told reads same on, sum_by-cons (λ (r : Read). accepted_among r.events r.replies) read reads)
 

@@ -1,10 +1,11 @@
+pub mod Common
 mod Batches
 mod Callers
 mod Clients
+mod JobLogs
+mod Ledgers
 mod Lists
 mod Marks
 mod Pipelines
-mod JobLogs
 mod Sets
 mod Tolds
-mod Ledgers

@@ -1,8 +1,7 @@
 -- Which marks are set.
-use Rattle.std.proofs.Common.{◌≡◌, ◌≢◌, ◌<◌, ◌⊎◌, ℕ, zero, suc, ◌*◌, ◌/◌, ◌%◌, ◌^◌, List, inl, inr, length, get_or, replicate, refl, sym, ◌∙◌, ap, arith, slice_set, bit_or, w64}
+use Rattle.silt_session.proofs.Common.{◌≡◌, ◌≢◌, ◌<◌, ◌⊎◌, ℕ, zero, suc, List, inl, inr, length, get_or, refl, sym, ◌∙◌, ap, arith, replicate, cases_eq}
+use Rattle.std.proofs.Common.{◌*◌, ◌/◌, ◌%◌, ◌^◌, slice_set, bit_or, w64, ◌↔◌}
 use Rattle.std.specs.Int.{bit_at}
-use Rattle.std.specs.Prelude.{◌↔◌}
-use Rattle.std.proofs.lemmas.Bool.{cases_order}
 use Rattle.std.proofs.lemmas.List.{get_or-set_other, get_or-set_same}
 use Rattle.std.proofs.lemmas.Nat.Bits.{bit_at-zero, bit_at_set_other, bit_at_set_same}
 
@@ -32,14 +31,7 @@ module _ (words : List ℕ) (word bit : ℕ) (in_word : bit < 64) (in_words : wo
   set_other_bit i other = ap (λ (w : ℕ). bit_at w i) (get_or-set_same words word _ 0 in_words) ∙ bit_at_set_other w64 (get_or words word 0) bit in_word i other
 
   set_other : (at i : ℕ) → (at ≡ word → i ≢ bit) → bit_at (get_or (set_in words word bit) at 0) i ≡ bit_at (get_or words at 0) i
-  set_other at i other =
-      let go : (at ≡ word) ⊎ ((at < word) ⊎ (word < at)) → bit_at (get_or (set_in words word bit) at 0) i ≡ bit_at (get_or words at 0) i = elim [
-        | inl is ↦
-            ap (λ (a : ℕ). bit_at (get_or (set_in words word bit) a 0) i) is ∙ set_other_bit i (other is) ∙ ap (λ (a : ℕ). bit_at (get_or words a 0) i) (sym is)
-        | inr (inl below) ↦ set_other_word at i (λ is. omega (arith, is, below))
-        | inr (inr above) ↦ set_other_word at i (λ is. omega (arith, is, above))
-      ] in
-      go (cases_order at word)
+  set_other place i other = elim (cases_eq place word) [ inl is ↦ rw is (set_other_bit i (other is)) | inr apart ↦ set_other_word place i apart ]
 
   -- a mark with another number stays as it was
   set_none : (mark number : ℕ) → word ≡ mark / 64 → bit ≡ mark % 64 → number ≢ mark
@@ -48,21 +40,13 @@ module _ (words : List ℕ) (word bit : ℕ) (in_word : bit < 64) (in_words : wo
 
   -- the mark with this number is set
   set_its : (mark number : ℕ) → word ≡ mark / 64 → bit ≡ mark % 64 → number ≡ mark → bit_at (get_or (set_in words word bit) (number / 64) 0) (number % 64) ≡ 1
-  set_its mark number is_word is_bit is =
-      ap (λ (a : ℕ). bit_at (get_or (set_in words word bit) a 0) (number % 64)) (ap (λ (n : ℕ). n / 64) is ∙ sym is_word)
-      ∙ ap (λ (b : ℕ). bit_at (get_or (set_in words word bit) word 0) b) (ap (λ (n : ℕ). n % 64) is ∙ sym is_bit) ∙ set_same
+  set_its mark number is_word is_bit is = rw (is, ← is_word, ← is_bit) set_same
 
   -- the marks that were set, and this one, are set, and no other
   pub marked_too : (mark number : ℕ) → word ≡ mark / 64 → bit ≡ mark % 64
       → (bit_at (get_or (set_in words word bit) (number / 64) 0) (number % 64) ≡ 1) ↔ ((bit_at (get_or words (number / 64) 0) (number % 64) ≡ 1) ⊎ (number ≡ mark))
-  marked_too mark number is_word is_bit =
-      let Goal : Type 0 = (bit_at (get_or (set_in words word bit) (number / 64) 0) (number % 64) ≡ 1) ↔ ((bit_at (get_or words (number / 64) 0) (number % 64) ≡ 1) ⊎ (number ≡ mark)) in
-      let differs : number ≢ mark → Goal = λ ne.
-      let same = set_none mark number is_word is_bit ne in
-      (λ set. inl (sym same ∙ set), elim [ inl set ↦ same ∙ set | inr is ↦ absurd (ne is) ]) in
-      let go : (number ≡ mark) ⊎ ((number < mark) ⊎ (mark < number)) → Goal = elim [
-        | inl is ↦ (λ set. inr is, λ either. set_its mark number is_word is_bit is)
-        | inr (inl below) ↦ differs (λ is. omega (arith, is, below))
-        | inr (inr above) ↦ differs (λ is. omega (arith, is, above))
-      ] in
-      go (cases_order number mark)
+  marked_too mark number is_word is_bit = elim (cases_eq number mark) [
+    | inl is ↦ (λ set. inr is, λ either. set_its mark number is_word is_bit is)
+    | inr ne ↦
+        let same = set_none mark number is_word is_bit ne in (λ set. inl (sym same ∙ set), elim [ inl set ↦ same ∙ set | inr is ↦ absurd (ne is) ])
+  ]

@@ -1,25 +1,22 @@
 -- The replies of shards, woven into those of a set.
-use Rattle.std.proofs.Common.{◌≡◌, ◌⊎◌, inl, inr, ◌==◌, ℕ, zero, suc, ◌<◌, ◌≤◌, ◌+◌, Bool, true, false, List, [], ◌∷◌, ◌++◌, Option, Some, None, cond, drop}
-use Rattle.std.proofs.Common.{get_or, length, map, set, take, refl, sym, ◌∙◌, ap, subst, arith}
-use Rattle.std.specs.Prelude.{IfOk, IfSome, IsSomeAnd, OnOk, Result, Ok, Err, slice_get}
-use Rattle.std.specs.List.{AllZip}
+use Rattle.silt_session.proofs.Common.{◌≡◌, ◌⊎◌, inl, inr, ℕ, zero, suc, ◌<◌, ◌≤◌, ◌+◌, Bool, false, List, [], ◌∷◌, ◌++◌, drop, get_or, length, map, take, refl, sym, ◌∙◌, ap, arith, IfOk}
+use Rattle.silt_session.proofs.Common.{IsSomeAnd, true, Option, Some, None, IfSome, Result, Ok, Err, slice_get, AllZip, result_ok, append-nil, length-set, take_all, cases_eq, AllZip-long}
+use Rattle.silt_session.proofs.Common.{same_Some, PlainReply, Event, EachShard, HasPart}
+use Rattle.std.proofs.Common.{◌==◌, set, OnOk}
+use Rattle.std.proofs.lemmas.List.{length-append, length-take-le, map-append, take_more}
+use Rattle.std.proofs.lemmas.Bool.{eq-eqb, ne_eqb}
+use Rattle.std.proofs.lemmas.Slice.Zip.{AllZip-left}
+use Rattle.std.proofs.lemmas.Option.{none-some, slice_get_read, slice_get_within}
+use Rattle.silt_session.specs.SetAnswers.{DealsTo, Draws, DrawsAll, DrawsEach, DrawsFrom, DrawsHeads, GivesAt, SetGives, route_of}
 use Rattle.std.specs.Option.{option_to_list}
-use Rattle.std.specs.Result.{result_ok}
-use Rattle.std.proofs.lemmas.List.{append-nil, length-append, length-set, length-take-le, map-append, take_all, take_more}
-use Rattle.std.proofs.lemmas.Bool.{cases_eq, eq-eqb, ne_eqb}
-use Rattle.std.proofs.lemmas.Option.{none-some, same_Some, slice_get_read, slice_get_within}
-use Rattle.silt_event.specs.Events.{PlainReply}
-use Rattle.silt_event.specs.declared.event.Event.{Event}
-use Rattle.silt_event.specs.declared.event.Event.TheVariants.{Put, Delete, Swap, Flush, Get, Convert, Merge}
-use Rattle.silt_event.specs.declared.reply.Reply.TheVariants.{NotServed}
-use Rattle.silt_shards.specs.Routing.{is_routed, routed, shard_of}
+use Rattle.std.proofs.lemmas.List.Elements.{filter-append}
+use Rattle.silt_event.specs.declared.event.Event.TheVariants.{Put, Flush, Convert, Merge}
+use Rattle.silt_shards.specs.Routing.{is_routed, routed}
 use Rattle.silt_shards.specs.Sets.{joined}
-use Rattle.silt_shards.proofs.Lists.{get_set_other, get_set_same}
-use Rattle.silt_session.specs.SetAnswers.{DealsTo, Draws, DrawsAll, DrawsEach, DrawsFrom, DrawsHeads, EachShard, GivesAt, GivesBy, HasPart, SetGives, route_of}
+use Rattle.silt_shards.proofs.Lists.{changed_next, get_set_other, get_set_same}
 use Rattle.silt_session.specs.declared.set.Route.{Route}
 use Rattle.silt_session.specs.declared.set.Route.TheVariants.{One, All as ToAll, Nowhere}
 use Rattle.silt_session.proofs.Clients.{zip_places}
-use Rattle.silt_session.proofs.Lists.{changed_next}
 
 -- ---- what is at a place
 
@@ -27,9 +24,6 @@ module _ {X : Type 0} (P : X → Type 0) where
   pub some_and : (o : Option X) → IsSomeAnd o P → (x : X) × (o ≡ Some x) × P x
   some_and (Some x) held = (x, refl, held)
   some_and None held = absurd held
-
-  pub some_is : (o : Option X) (x : X) → o ≡ Some x → P x → IsSomeAnd o P
-  some_is o x is held = subst (λ (p : Option X). IsSomeAnd p P) (sym is) held
 
 -- what is at a place within
 has_item : {X : Type 0} (xs : List X) (i : ℕ) → i < length xs → (x : X) × (slice_get xs i ≡ Some x)
@@ -46,28 +40,19 @@ module _ {Q : Type 0} (items : Q → List PlainReply) where
   heads_at [] [] [] all i before at = absurd (none-some before at)
   heads_at (x ∷ old) (head ∷ heads) (y ∷ new) all zero before at = (head, y, refl, refl, ap items (sym (same_Some x before at)) ∙ all.0)
   heads_at (x ∷ old) (head ∷ heads) (y ∷ new) all (suc i) before at = heads_at old heads new all.1 i before at
-  heads_at [] (head ∷ heads) new all i before at = absurd all
-  heads_at [] [] (y ∷ new) all i before at = absurd all
-  heads_at (x ∷ old) [] new all i before at = absurd all
-  heads_at (x ∷ old) (head ∷ heads) [] all i before at = absurd all
+  heads_at old heads new all i before at = absurd all
 
   heads_long : (old : List Q) (heads : List PlainReply) (new : List Q) → DrawsHeads old heads new items → (length heads ≡ length old) × (length new ≡ length old)
   heads_long [] [] [] all = (refl, refl)
   heads_long (x ∷ old) (head ∷ heads) (y ∷ new) all = let more = heads_long old heads new all.1 in (ap suc more.0, ap suc more.1)
-  heads_long [] (head ∷ heads) new all = absurd all
-  heads_long [] [] (y ∷ new) all = absurd all
-  heads_long (x ∷ old) [] new all = absurd all
-  heads_long (x ∷ old) (head ∷ heads) [] all = absurd all
+  heads_long old heads new all = absurd all
 
   -- one list more has lost its first reply
   pub heads_more : (old : List Q) (heads : List PlainReply) (new : List Q) (before after : Q) (head : PlainReply) → DrawsHeads old heads new items
       → items before ≡ head ∷ items after → DrawsHeads (old ++ before ∷ []) (heads ++ head ∷ []) (new ++ after ∷ []) items
   heads_more [] [] [] before after head all is = (is, tt)
   heads_more (x ∷ old) (h ∷ heads) (y ∷ new) before after head all is = (all.0, heads_more old heads new before after head all.1 is)
-  heads_more [] (h ∷ heads) new before after head all is = absurd all
-  heads_more [] [] (y ∷ new) before after head all is = absurd all
-  heads_more (x ∷ old) [] new before after head all is = absurd all
-  heads_more (x ∷ old) (h ∷ heads) [] before after head all is = absurd all
+  heads_more old heads new before after head all is = absurd all
 
 -- ---- the replies to all events
 
@@ -76,43 +61,17 @@ module _ {A Q : Type 0} (gives : A → Event → PlainReply → Type 0) (shards 
   abbrev Fits : List Event → List Q → Type 0
   Fits events told = EachShard shards told (λ i shard list. AllZip (gives shard) (routed (length shards) i events) (items list))
 
-  -- the events of a shard, if it does the first one, and if it does not
-  own_event : (e : Event) (events : List Event) (i : ℕ) → is_routed (length shards) i e ≡ true → routed (length shards) i (e ∷ events) ≡ e ∷ routed (length shards) i events
-  own_event e events i is = ap (λ (t : Bool). cond t (e ∷ routed (length shards) i events) (routed (length shards) i events)) is
-
-  other_event : (e : Event) (events : List Event) (i : ℕ) → is_routed (length shards) i e ≡ false → routed (length shards) i (e ∷ events) ≡ routed (length shards) i events
-  other_event e events i is = ap (λ (t : Bool). cond t (e ∷ routed (length shards) i events) (routed (length shards) i events)) is
-
-  -- the first reply of the shard that does the first event, and the others
-  split_own : (e : Event) (events : List Event) (i : ℕ) (shard : A) (before after : Q) (reply : PlainReply) → is_routed (length shards) i e ≡ true
-      → AllZip (gives shard) (routed (length shards) i (e ∷ events)) (items before) → items before ≡ reply ∷ items after
-      → gives shard e reply × AllZip (gives shard) (routed (length shards) i events) (items after)
-  split_own e events i shard before after reply is fits drawn =
-      subst (λ (l : List PlainReply). AllZip (gives shard) (e ∷ routed (length shards) i events) l) drawn
-      (subst (λ (l : List Event). AllZip (gives shard) l (items before)) (own_event e events i is) fits)
-
   -- an event of one shard takes the first reply of that
   one_woven : (e : Event) (events : List Event) (number : ℕ) (told new : List Q) (reply : PlainReply) → ((i : ℕ) → is_routed (length shards) i e ≡ (number == i))
       → (shard : A) → slice_get shards number ≡ Some shard → Fits (e ∷ events) told → DrawsFrom number told reply new items
       → GivesAt gives shards number e reply × Fits events new
-  one_woven e events number told new reply only shard there fits (before, after, at, drawn, same) =
-      let found = some_and (λ list. AllZip (gives shard) (routed (length shards) number (e ∷ events)) (items list)) (slice_get told number) (fits number shard there) in
-      let list : AllZip (gives shard) (routed (length shards) number (e ∷ events)) (items before) =
-      subst (λ (q : Q). AllZip (gives shard) (routed (length shards) number (e ∷ events)) (items q)) (same_Some found.0 before (sym found.1 ∙ at)) found.2 in
-      let parts = split_own e events number shard before after reply (only number ∙ eq-eqb number number refl) list drawn in (
-        some_is (λ s. gives s e reply) (slice_get shards number) shard there parts.0,
+  one_woven e events number told new reply only shard there fits (before, after, here, drawn, same) =
+      let own : is_routed (length shards) number e ≡ true = only number ∙ eq-eqb number number refl in
+      let parts = rw (here, own, drawn) at (fits number shard there) in (
+        rw there parts.0,
         λ i other other_there. elim (cases_eq number i) [
-          | inl is ↦
-              let mine : other ≡ shard = same_Some other shard (sym other_there ∙ (ap (slice_get shards) (sym is) ∙ there)) in
-              some_is (λ q. AllZip (gives other) (routed (length shards) i events) (items q)) (slice_get new i) after
-              (ap (λ (l : List Q). slice_get l i) same ∙ (ap (slice_get (set told number after)) (sym is) ∙ get_set_same told number before after at))
-              (subst (λ (n : ℕ). AllZip (gives other) (routed (length shards) n events) (items after)) is
-              (subst (λ (s : A). AllZip (gives s) (routed (length shards) number events) (items after)) (sym mine) parts.1))
-          | inr apart ↦
-              let kept = some_and (λ q. AllZip (gives other) (routed (length shards) i (e ∷ events)) (items q)) (slice_get told i) (fits i other other_there) in
-              some_is (λ q. AllZip (gives other) (routed (length shards) i events) (items q)) (slice_get new i) kept.0
-              (ap (λ (l : List Q). slice_get l i) same ∙ (get_set_other told number i after apart ∙ kept.1))
-              (subst (λ (l : List Event). AllZip (gives other) l (items kept.0)) (other_event e events i (only i ∙ ne_eqb number i apart)) kept.2)
+          | inl is ↦ let mine : other ≡ shard = cc in rw (same, ← is, get_set_same told number before after here, mine) parts.1
+          | inr apart ↦ rw (same, get_set_other told number i after apart) (rw (only i ∙ ne_eqb number i apart) at (fits i other other_there))
         ],
       )
 
@@ -120,29 +79,22 @@ module _ {A Q : Type 0} (gives : A → Event → PlainReply → Type 0) (shards 
   all_woven : (events : List Event) (told new : List Q) (heads : List PlainReply) → length told ≡ length shards → Fits (Flush ∷ events) told
       → DrawsHeads told heads new items → AllZip (λ shard part. gives shard Flush part) shards heads × Fits events new
   all_woven events told new heads count fits drawn = (
-    zip_places (λ shard part. gives shard Flush part) shards heads ((heads_long items told heads new drawn).0 ∙ count) (λ i shard part there at.
-        let one = step i shard there in
-        subst (λ (p : PlainReply). gives shard Flush p) (same_Some one.0 part (sym one.2 ∙ at)) one.4),
-    λ i shard there.
-        let one = step i shard there in
-        some_is (λ q. AllZip (gives shard) (routed (length shards) i events) (items q)) (slice_get new i) one.1 one.3 one.5,
+    zip_places (λ shard part. gives shard Flush part) shards heads ((heads_long items told heads new drawn).0 ∙ count) (λ i shard part there here.
+        let one = step i shard there in rw (same_Some one.0 part (sym one.2 ∙ here)) at one.4),
+    λ i shard there. let one = step i shard there in rw one.3 one.5,
   )
     where
       step : (i : ℕ) (shard : A) → slice_get shards i ≡ Some shard
           → (head : PlainReply) × (after : Q) × (slice_get heads i ≡ Some head) × (slice_get new i ≡ Some after) × gives shard Flush head
           × AllZip (gives shard) (routed (length shards) i events) (items after)
       step i shard there =
-          let found = some_and (λ q. AllZip (gives shard) (routed (length shards) i (Flush ∷ events)) (items q)) (slice_get told i) (fits i shard there) in
-          let head = heads_at items told heads new drawn i found.0 found.1 in
-          let parts = split_own Flush events i shard found.0 head.1 head.0 refl found.2 head.4 in
-          (head.0, head.1, head.2, head.3, parts.0, parts.1)
+          let found = some_and _ (slice_get told i) (fits i shard there) in
+          let (head, after, in_heads, in_new, is) = heads_at items told heads new drawn i found.0 found.1 in
+          let parts = rw is at found.2 in (head, after, in_heads, in_new, parts.0, parts.1)
 
   -- a step takes none
   none_woven : (e : Event) (events : List Event) (told new : List Q) → ((i : ℕ) → is_routed (length shards) i e ≡ false) → Fits (e ∷ events) told → new ≡ told → Fits events new
-  none_woven e events told new none fits same = λ i shard there.
-      let found = some_and (λ q. AllZip (gives shard) (routed (length shards) i (e ∷ events)) (items q)) (slice_get told i) (fits i shard there) in
-      some_is (λ q. AllZip (gives shard) (routed (length shards) i events) (items q)) (slice_get new i) found.0 (ap (λ (l : List Q). slice_get l i) same ∙ found.1)
-      (subst (λ (l : List Event). AllZip (gives shard) l (items found.0)) (other_event e events i (none i)) found.2)
+  none_woven e events told new none fits same = λ i shard there. rw same (rw (none i) at (fits i shard there))
 
   -- the shard of a drawn reply
   drawn_at : (e : Event) (events : List Event) (number : ℕ) (told new : List Q) (reply : PlainReply) → ((i : ℕ) → is_routed (length shards) i e ≡ (number == i))
@@ -156,15 +108,13 @@ module _ {A Q : Type 0} (gives : A → Event → PlainReply → Type 0) (shards 
   -- one event has its reply
   woven_one : (e : Event) (events : List Event) (told mid : List Q) (reply : PlainReply) → length told ≡ length shards → Fits (e ∷ events) told
       → Draws told (route_of (length shards) e) reply mid items → SetGives gives shards e reply × Fits events mid × (length mid ≡ length shards)
-  woven_one (Put key value) events told mid reply count fits drawn = drawn_at (Put key value) events (shard_of (length shards) key) told mid reply (λ i. refl) count fits drawn
-  woven_one (Delete key) events told mid reply count fits drawn = drawn_at (Delete key) events (shard_of (length shards) key) told mid reply (λ i. refl) count fits drawn
-  woven_one (Swap key old new) events told mid reply count fits drawn = drawn_at (Swap key old new) events (shard_of (length shards) key) told mid reply (λ i. refl) count fits drawn
-  woven_one (Get key) events told mid reply count fits drawn = drawn_at (Get key) events (shard_of (length shards) key) told mid reply (λ i. refl) count fits drawn
   woven_one Flush events told mid reply count fits drawn =
       let woven = all_woven events told mid drawn.0 count fits drawn.1 in
       ((drawn.0, woven.0, drawn.2), woven.1, (heads_long items told drawn.0 mid drawn.1).1 ∙ count)
   woven_one Convert events told mid reply count fits drawn = (drawn.0, none_woven Convert events told mid (λ i. refl) fits drawn.1, ap length drawn.1 ∙ count)
   woven_one Merge events told mid reply count fits drawn = (drawn.0, none_woven Merge events told mid (λ i. refl) fits drawn.1, ap length drawn.1 ∙ count)
+  woven_one (Put key value) events told mid reply count fits drawn = drawn_at _ events _ told mid reply (λ i. refl) count fits drawn
+  woven_one event events told mid reply count fits drawn = drawn_at _ events _ told mid reply (λ i. refl) count fits drawn
 
   -- each event has its reply
   pub woven_all : (events : List Event) (told new : List Q) (replies : List PlainReply) → length told ≡ length shards → Fits events told
@@ -173,16 +123,14 @@ module _ {A Q : Type 0} (gives : A → Event → PlainReply → Type 0) (shards 
   woven_all (e ∷ events) told new (reply ∷ replies) count fits (mid, first, rest) =
       let one = woven_one e events told mid reply count fits first in
       (one.0, woven_all events mid new replies one.2 one.1 rest)
-  woven_all [] told new (reply ∷ replies) count fits drawn = absurd drawn
-  woven_all (e ∷ events) told new [] count fits drawn = absurd drawn
+  woven_all events told new replies count fits drawn = absurd drawn
 
 -- one reply more is drawn
 pub draws_more : {Q : Type 0} (old mid new : List Q) (routes : List Route) (replies : List PlainReply) (route : Route) (reply : PlainReply) (items : Q → List PlainReply)
     → DrawsAll old routes replies mid items → Draws mid route reply new items → DrawsAll old (routes ++ route ∷ []) (replies ++ reply ∷ []) new items
-draws_more {Q} old mid new [] [] route reply items all one = (new, subst (λ (l : List Q). Draws l route reply new items) all one, refl)
+draws_more old mid new [] [] route reply items all one = (new, rw all at one, refl)
 draws_more old mid new (r ∷ routes) (p ∷ replies) route reply items (first, drawn, all) one = (first, drawn, draws_more first mid new routes replies route reply items all one)
-draws_more old mid new [] (p ∷ replies) route reply items all one = absurd all
-draws_more old mid new (r ∷ routes) [] route reply items all one = absurd all
+draws_more old mid new routes replies route reply items all one = absurd all
 
 -- ---- the events of each shard
 
@@ -197,100 +145,42 @@ pub routed_by : (count : ℕ) (e : Event) (i : ℕ) → is_routed count i e ≡ 
 routed_by count (Put key value) i = refl
 routed_by count event i = refl
 
--- what is at the same place of a related list
-zip_at : {X Y : Type 0} (R : X → Y → Type 0) (xs : List X) (ys : List Y) (i : ℕ) (x : X) → AllZip R xs ys → slice_get xs i ≡ Some x → (y : Y) × (slice_get ys i ≡ Some y) × R x y
-zip_at R [] ys i x all at = absurd (none-some x at)
-zip_at R (a ∷ xs) (b ∷ ys) zero x all at = (b, refl, subst (λ u. R u b) (same_Some a x at) all.0)
-zip_at R (a ∷ xs) (b ∷ ys) (suc i) x all at = zip_at R xs ys i x all.1 at
-zip_at R (a ∷ xs) [] i x all at = absurd all
-
-zip_long : {X Y : Type 0} (R : X → Y → Type 0) (xs : List X) (ys : List Y) → AllZip R xs ys → length ys ≡ length xs
-zip_long R [] [] all = refl
-zip_long R (a ∷ xs) (b ∷ ys) all = ap suc (zip_long R xs ys all.1)
-zip_long R [] (b ∷ ys) all = absurd all
-zip_long R (a ∷ xs) [] all = absurd all
-
 module _ {V : Type 0} (items : V → List Event) (count : ℕ) where
-  -- one event is dealt to a shard that does it, or that does not
-  dealt_own : (e : Event) (i : ℕ) (events : List Event) → is_routed count i e ≡ true → events ++ e ∷ [] ≡ events ++ routed count i (e ∷ [])
-  dealt_own e i events is = ap (λ (t : Bool). events ++ cond t (e ∷ []) []) (sym is)
-
-  dealt_other : (e : Event) (i : ℕ) (events : List Event) → is_routed count i e ≡ false → events ≡ events ++ routed count i (e ∷ [])
-  dealt_other e i events is = sym (append-nil events) ∙ ap (λ (t : Bool). events ++ cond t (e ∷ []) []) (sym is)
-
+  -- one event is dealt to the shards of its route
   pub deals_one : (e : Event) (number : ℕ) (old new : List V) (before after : V) → route_of count e ≡ One number → slice_get old number ≡ Some before
       → items after ≡ items before ++ e ∷ [] → new ≡ set old number after → DealsTo count e old new items
-  deals_one e number old new before after route at added same = (
+  deals_one e number old new before after route here added same = (
     ap length same ∙ length-set old number after,
     λ i events had.
-        let found = some_and (λ part. items part ≡ events) (slice_get old i) had in
         let on : is_routed count i e ≡ (number == i) = routed_by count e i ∙ ap (λ (r : Route). is_on r i) route in
         elim (cases_eq number i) [
           | inl is ↦
-              let mine : before ≡ found.0 = same_Some before found.0 (sym at ∙ (ap (slice_get old) is ∙ found.1)) in
-              some_is (λ part. items part ≡ events ++ routed count i (e ∷ [])) (slice_get new i) after
-              (ap (λ (l : List V). slice_get l i) same ∙ (ap (slice_get (set old number after)) (sym is) ∙ get_set_same old number before after at))
-              (added ∙ (ap (λ (l : List Event). l ++ e ∷ []) (ap items mine ∙ found.2) ∙ dealt_own e i events (on ∙ eq-eqb number i is)))
-          | inr apart ↦
-              some_is (λ part. items part ≡ events ++ routed count i (e ∷ [])) (slice_get new i) found.0
-              (ap (λ (l : List V). slice_get l i) same ∙ (get_set_other old number i after apart ∙ found.1))
-              (found.2 ∙ dealt_other e i events (on ∙ ne_eqb number i apart))
+              let was : items before ≡ events = rw (← is, here) at had in
+              rw (same, on ∙ eq-eqb number i is, ← is, get_set_same old number before after here, added, was)
+          | inr apart ↦ rw (same, get_set_other old number i after apart, on ∙ ne_eqb number i apart, append-nil) had
         ],
   )
 
   pub deals_all : (e : Event) (old new : List V) → route_of count e ≡ ToAll → AllZip (λ before after. items after ≡ items before ++ e ∷ []) old new → DealsTo count e old new items
   deals_all e old new route all = (
-    zip_long (λ before after. items after ≡ items before ++ e ∷ []) old new all,
+    AllZip-long (λ before after. items after ≡ items before ++ e ∷ []) old new all,
     λ i events had.
         let found = some_and (λ part. items part ≡ events) (slice_get old i) had in
-        let added = zip_at (λ before after. items after ≡ items before ++ e ∷ []) old new i found.0 all found.1 in
-        some_is (λ part. items part ≡ events ++ routed count i (e ∷ [])) (slice_get new i) added.0 added.1
-        (added.2 ∙ (ap (λ (l : List Event). l ++ e ∷ []) found.2 ∙ dealt_own e i events (routed_by count e i ∙ ap (λ (r : Route). is_on r i) route))),
+        let on : is_routed count i e ≡ true = routed_by count e i ∙ ap (λ (r : Route). is_on r i) route in
+        rw on (rw (found.1, found.2) at (AllZip-left (λ before after. items after ≡ items before ++ e ∷ []) old new all i)),
   )
-
-  pub deals_none : (e : Event) (old new : List V) → route_of count e ≡ Nowhere → new ≡ old → DealsTo count e old new items
-  deals_none e old new route same = (
-    ap length same,
-    λ i events had.
-        let found = some_and (λ part. items part ≡ events) (slice_get old i) had in
-        some_is (λ part. items part ≡ events ++ routed count i (e ∷ [])) (slice_get new i) found.0 (ap (λ (l : List V). slice_get l i) same ∙ found.1)
-        (found.2 ∙ dealt_other e i events (routed_by count e i ∙ ap (λ (r : Route). is_on r i) route)),
-  )
-
--- not all shards are on the route
-abbrev NotAll : Route → Type 0
-NotAll ToAll = ⊥
-NotAll route = Unit {0}
 
 -- the only event of a route to all is a flush
 pub flush_only : (count : ℕ) (e : Event) → route_of count e ≡ ToAll → e ≡ Flush
-flush_only count (Put key value) is = absurd (subst NotAll is tt)
-flush_only count (Delete key) is = absurd (subst NotAll is tt)
-flush_only count (Swap key old new) is = absurd (subst NotAll is tt)
-flush_only count (Get key) is = absurd (subst NotAll is tt)
 flush_only count Flush is = refl
-flush_only count Convert is = absurd (subst NotAll is tt)
-flush_only count Merge is = absurd (subst NotAll is tt)
+flush_only count event is = absurd (cc)
 
 -- a flush is dealt to all, unless out of memory
 pub all_dealt : {V E : Type 0} (items : V → List Event) (count : ℕ) (e : Event) (old new : List V) (done : Result (Unit {0}) E) → route_of count e ≡ ToAll
     → OnOk done (AllZip (λ before after. items after ≡ items before ++ Flush ∷ []) old new) → OnOk done (DealsTo count e old new items)
 all_dealt items count e old new (Ok u) route all =
-    deals_all items count e old new route
-    (subst (λ (f : Event). AllZip (λ before after. items after ≡ items before ++ f ∷ []) old new) (sym (flush_only count e route)) all)
+    deals_all items count e old new route (rw (flush_only count e route) all)
 all_dealt items count e old new (Err r) route all = tt
-
--- an item that may come first, and what comes behind
-cond_append : {X : Type 0} (b : Bool) (x : X) (us vs : List X) → cond b (x ∷ us) us ++ vs ≡ cond b (x ∷ us ++ vs) (us ++ vs)
-cond_append true x us vs = refl
-cond_append false x us vs = refl
-
--- the events of a shard, with one more
-pub routed_more : (count i : ℕ) (events : List Event) (e : Event) → routed count i (events ++ e ∷ []) ≡ routed count i events ++ routed count i (e ∷ [])
-routed_more count i [] e = refl
-routed_more count i (x ∷ events) e =
-    ap (λ (l : List Event). cond (is_routed count i x) (x ∷ l) l) (routed_more count i events e)
-    ∙ sym (cond_append (is_routed count i x) x (routed count i events) (routed count i (e ∷ [])))
 
 -- ---- a list that grows beside the shards
 
@@ -313,12 +203,9 @@ get_last (a ∷ xs) x = get_last xs x
 -- one shard more has something that fits it
 pub each_more : {A B : Type 0} (shards : List A) (things : List B) (Fits : ℕ → A → B → Type 0) (shard : A) (thing : B) → length things ≡ length shards
     → EachShard shards things Fits → Fits (length shards) shard thing → EachShard (shards ++ shard ∷ []) (things ++ thing ∷ []) Fits
-each_more shards things Fits shard thing count each one = λ i s at. elim (get_append shards shard i s at) [
-  | inl front ↦ let found = some_and (λ t. Fits i s t) (slice_get things i) (each i s front) in
-      some_is (λ t. Fits i s t) (slice_get (things ++ thing ∷ []) i) found.0 (get_front things thing i found.0 found.1) found.2
-  | inr last ↦
-      some_is (λ t. Fits i s t) (slice_get (things ++ thing ∷ []) i) thing (ap (slice_get (things ++ thing ∷ [])) (last.0 ∙ sym count) ∙ get_last things thing)
-      (subst (λ (n : ℕ). Fits n s thing) (sym last.0) (subst (λ a. Fits (length shards) a thing) (sym last.1) one))
+each_more shards things Fits shard thing count each one = λ i s here. elim (get_append shards shard i s here) [
+  | inl front ↦ let found = some_and (Fits i s) (slice_get things i) (each i s front) in rw (get_front things thing i found.0 found.1) found.2
+  | inr (at_end, is) ↦ rw (at_end, ← count, get_last things thing, count, is) one
 ]
 
 -- the first item of what is left of a list
@@ -331,25 +218,22 @@ get_left (a ∷ xs) (suc k) x rest is = get_left xs k x rest is
 pub each_next : {A B : Type 0} (shards : List A) (things : List B) (Fits : ℕ → A → B → Type 0) (i : ℕ) (shard : A) (thing : B) → i < length shards
     → shard ≡ get_or shards i shard → length things ≡ i → EachShard (take i shards) things Fits → Fits i shard thing
     → EachShard (take (i + 1) shards) (things ++ thing ∷ []) Fits
-each_next {A} {B} shards things Fits i shard thing within is count each one =
+each_next shards things Fits i shard thing within is count each one =
     let long : length (take i shards) ≡ i = length-take-le i shards (omega (arith, within)) in
-    subst (λ (l : List A). EachShard l (things ++ thing ∷ []) Fits) (sym (take_more shards i shard within ∙ ap (λ (a : A). take i shards ++ a ∷ []) (sym is)))
-    (each_more (take i shards) things Fits shard thing (count ∙ sym long) each (subst (λ (n : ℕ). Fits n shard thing) (sym long) one))
+    rw (take_more shards i shard within, ← is) (each_more (take i shards) things Fits shard thing (count ∙ sym long) each (rw long one))
 
 -- the shards so far are all
 pub each_all : {A B : Type 0} (shards : List A) (things : List B) (Fits : ℕ → A → B → Type 0) (i : ℕ) → length shards ≤ i → EachShard (take i shards) things Fits
     → EachShard shards things Fits
-each_all {A} {B} shards things Fits i over each = subst (λ (l : List A). EachShard l things Fits) (take_all i shards over) each
+each_all shards things Fits i over each = rw (take_all i shards over) at each
 
 -- one shard more was asked for the replies to its events
 pub asked_next : {A P X : Type 0} (are_asked : A → List Event → X → Type 0) (part_events : P → List Event) (shards : List A) (parts left rest : List P) (asked now : List X) (i : ℕ)
     (shard : A) (part : P) (one : X) → i < length shards → shard ≡ get_or shards i shard → length asked ≡ i → left ≡ drop i parts → left ≡ part ∷ rest → now ≡ asked ++ one ∷ []
     → EachShard (take i shards) asked (λ n s x. IsSomeAnd (slice_get parts n) (λ p. are_asked s (part_events p) x)) → are_asked shard (part_events part) one
     → EachShard (take (i + 1) shards) now (λ n s x. IsSomeAnd (slice_get parts n) (λ p. are_asked s (part_events p) x))
-asked_next {A} {P} {X} are_asked part_events shards parts left rest asked now i shard part one within is count front first added each begun =
-    subst (λ (l : List X). EachShard (take (i + 1) shards) l (λ n s x. IsSomeAnd (slice_get parts n) (λ p. are_asked s (part_events p) x))) (sym added)
-    (each_next shards asked (λ n s x. IsSomeAnd (slice_get parts n) (λ p. are_asked s (part_events p) x)) i shard one within is count each
-    (some_is (λ p. are_asked shard (part_events p) one) (slice_get parts i) part (get_left parts i part rest (sym front ∙ first)) begun))
+asked_next are_asked part_events shards parts left rest asked now i shard part one within is count front first added each begun =
+    rw added (each_next shards asked _ i shard one within is count each (rw (get_left parts i part rest (sym front ∙ first)) begun))
 
 -- the replies of one shard more have come
 pub told_next : {A X Q : Type 0} (gives : A → Event → PlainReply → Type 0) (are_asked : A → List Event → X → Type 0) (items : Q → List PlainReply) (shards : List A)
@@ -358,11 +242,8 @@ pub told_next : {A X Q : Type 0} (gives : A → Event → PlainReply → Type 0)
     → EachShard (take i shards) told (λ n s q. IsSomeAnd (slice_get asked n) (λ x. (some : List Event) → are_asked s some x → AllZip (gives s) some (items q)))
     → ((some : List Event) → are_asked shard some one → AllZip (gives shard) some replies)
     → EachShard (take (i + 1) shards) now (λ n s q. IsSomeAnd (slice_get asked n) (λ x. (some : List Event) → are_asked s some x → AllZip (gives s) some (items q)))
-told_next {A} {X} {Q} gives are_asked items shards asked left rest told now i shard one list replies within is count front first added same each came =
-    subst (λ (l : List Q). EachShard (take (i + 1) shards) l (λ n s q. IsSomeAnd (slice_get asked n) (λ x. (some : List Event) → are_asked s some x → AllZip (gives s) some (items q)))) (sym added)
-    (each_next shards told (λ n s q. IsSomeAnd (slice_get asked n) (λ x. (some : List Event) → are_asked s some x → AllZip (gives s) some (items q))) i shard list within is count each
-    (some_is (λ x. (some : List Event) → are_asked shard some x → AllZip (gives shard) some (items list)) (slice_get asked i) one (get_left asked i one rest (sym front ∙ first))
-    (λ some was. subst (λ (l : List PlainReply). AllZip (gives shard) some l) (sym same) (came some was))))
+told_next gives are_asked items shards asked left rest told now i shard one list replies within is count front first added same each came =
+    rw added (each_next shards told _ i shard list within is count each (rw (get_left asked i one rest (sym front ∙ first), same) came))
 
 -- ---- the replies of the shards to their events
 
@@ -374,17 +255,11 @@ module _ {A P X Q : Type 0} (gives : A → Event → PlainReply → Type 0) (are
       → EachShard shards asked (λ i shard one. IsSomeAnd (slice_get parts i) (λ part. are_asked shard (part_events part) one))
       → EachShard shards told (λ i shard list. IsSomeAnd (slice_get asked i) (λ one. (some : List Event) → are_asked shard some one → AllZip (gives shard) some (items list)))
       → EachShard shards told (λ i shard list. AllZip (gives shard) (routed (length shards) i events) (items list))
-  asked_fits events parts asked told dealt begun finished = λ i shard at.
-      let list = some_and (λ l. IsSomeAnd (slice_get asked i) (λ one. (some : List Event) → are_asked shard some one → AllZip (gives shard) some (items l))) (slice_get told i) (finished i shard at) in
-      let waited = some_and (λ one. (some : List Event) → are_asked shard some one → AllZip (gives shard) some (items list.0)) (slice_get asked i) list.2 in
-      let began = some_and (λ one. IsSomeAnd (slice_get parts i) (λ part. are_asked shard (part_events part) one)) (slice_get asked i) (begun i shard at) in
-      let sent = some_and (λ part. are_asked shard (part_events part) began.0) (slice_get parts i) began.2 in
-      let own = some_and (λ part. part_events part ≡ routed (length shards) i events) (slice_get parts i) (dealt i (slice_get_within shards i shard at)) in
-      let same_part : sent.0 ≡ own.0 = same_Some sent.0 own.0 (sym sent.1 ∙ own.1) in
-      let same_one : began.0 ≡ waited.0 = same_Some began.0 waited.0 (sym began.1 ∙ waited.1) in
-      some_is (λ l. AllZip (gives shard) (routed (length shards) i events) (items l)) (slice_get told i) list.0 list.1
-      (waited.2 (routed (length shards) i events) (subst (λ (l : List Event). are_asked shard l waited.0) (ap part_events same_part ∙ own.2)
-      (subst (λ (one : X). are_asked shard (part_events sent.0) one) same_one sent.2)))
+  asked_fits events parts asked told dealt begun finished = λ i shard here.
+      let own = some_and _ (slice_get parts i) (dealt i (slice_get_within shards i shard here)) in
+      let list = some_and _ (slice_get told i) (finished i shard here) in
+      let waited = some_and _ (slice_get asked i) list.2 in
+      rw list.1 (waited.2 _ (rw (waited.1, own.1, own.2) at (begun i shard here)))
 
 -- ---- heads of lists that are changed in place
 
@@ -393,10 +268,9 @@ pub heads_next : {Q : Type 0} (items : Q → List PlainReply) (xs ys : List Q) (
     → length ys ≡ length xs → drop i ys ≡ drop i xs → ((parts : List PlainReply) → sum ≡ joined parts → now ≡ joined (parts ++ head ∷ []))
     → (heads : List PlainReply) × DrawsHeads (take i xs) heads (take i ys) items × (sum ≡ joined heads) → items (get_or ys i d) ≡ head ∷ items after
     → (heads : List PlainReply) × DrawsHeads (take (i + 1) xs) heads (take (i + 1) (set ys i after)) items × (now ≡ joined heads)
-heads_next {Q} items xs ys i d after sum now head in_xs len same joins (heads, drawn, is) took = (
+heads_next items xs ys i d after sum now head in_xs len same joins (heads, drawn, is) took = (
   heads ++ head ∷ [],
-  changed_next (λ (us vs : List Q). DrawsHeads us (heads ++ head ∷ []) vs items) xs ys i d after in_xs len same
-      (λ at_xs. heads_more items (take i xs) heads (take i ys) (get_or xs i d) after head drawn (ap items (sym at_xs) ∙ took)),
+  changed_next (λ us vs. DrawsHeads us (heads ++ head ∷ []) vs items) xs ys i d after in_xs len same (λ at_xs. heads_more items _ heads _ _ after head drawn (rw at_xs at took)),
   joins heads is,
 )
 
@@ -413,13 +287,12 @@ pub deals_more : {V : Type 0} (items : V → List Event) (count : ℕ) (done : L
     → ((i : ℕ) → i < count → HasPart old items i (routed count i done)) → DealsTo count e old new items
     → (i : ℕ) → i < count → HasPart new items i (routed count i (done ++ e ∷ []))
 deals_more items count done e old new had deals i within =
-    subst (λ (l : List Event). HasPart new items i l) (sym (routed_more count i done e)) (deals.1 i (routed count i done) (had i within))
+    rw (filter-append (is_routed count i) done (e ∷ [])) (deals.1 i (routed count i done) (had i within))
 
 -- the routes of the events so far, and of one more
 pub routes_more : (count : ℕ) (done : List Event) (e : Event) (route : Route) (old new : List Route) → old ≡ map (route_of count) done → route ≡ route_of count e → new ≡ old ++ route ∷ []
     → new ≡ map (route_of count) (done ++ e ∷ [])
-routes_more count done e route old new is one added =
-    added ∙ ap (λ (l : List Route). l ++ route ∷ []) is ∙ ap (λ (r : Route). map (route_of count) done ++ r ∷ []) one ∙ sym (map-append (route_of count) done (e ∷ []))
+routes_more count done e route old new is one added = rw (added, is, one, map-append (route_of count) done (e ∷ []))
 
 -- ---- all of it
 
@@ -433,9 +306,9 @@ module _ {A P X Q L E : Type 0} (gives : A → Event → PlainReply → Type 0) 
       → IfSome woven (λ replies. DrawsEach told routes (list replies) items) → woven ≡ result_ok given
       → IfOk given (λ replies. AllZip (SetGives gives shards) events (list replies))
   set_answers events parts asked told routes woven (Ok replies) count routed_so dealt begun finished drawn is =
-      let each : DrawsEach told routes (list replies) items = subst (λ (o : Option L). IfSome o (λ r. DrawsEach told routes (list r) items)) is drawn in
+      let each : DrawsEach told routes (list replies) items = rw is at drawn in
       woven_all gives shards items events told each.0 (list replies) count (asked_fits gives are_asked shards part_events items events parts asked told dealt begun finished)
-      (subst (λ (l : List Route). DrawsAll told l (list replies) each.0 items) routed_so each.1)
+      (rw (← routed_so) each.1)
   set_answers events parts asked told routes woven (Err e) count routed_so dealt begun finished drawn is = tt
 
 -- ---- one event alone
@@ -445,31 +318,17 @@ last_alone : {X : Type 0} (r x : X) (rest : List X) → r ∷ [] ≡ rest ++ x �
 last_alone r x [] is = ap (λ l. get_or l 0 r) is
 last_alone r x (a ∷ rest) is = absurd (omega (arith, ap length is, length-append rest (x ∷ [])))
 
--- a step is not served
-pub none_gives : {A : Type 0} (gives : A → Event → PlainReply → Type 0) (shards : List A) (e : Event) → route_of (length shards) e ≡ Nowhere → SetGives gives shards e NotServed
-none_gives gives shards e route = subst (λ (r : Route). GivesBy gives shards r e NotServed) (sym route) refl
-
 module _ {A E : Type 0} (gives : A → Event → PlainReply → Type 0) (shards : List A) where
   -- the shard of an event's key gives the reply
   pub one_gives : (e : Event) (number : ℕ) (shard : A) (given : Result PlainReply E) → route_of (length shards) e ≡ One number → slice_get shards number ≡ Some shard
       → IfOk given (gives shard e) → IfOk given (SetGives gives shards e)
-  one_gives e number shard (Ok reply) route at gave =
-      subst (λ (r : Route). GivesBy gives shards r e reply) (sym route) (some_is (λ s. gives s e reply) (slice_get shards number) shard at gave)
-  one_gives e number shard (Err lack) route at gave = tt
-
-  -- all shards give the reply to a flush
-  pub all_give : (e : Event) (given : Result PlainReply E) → route_of (length shards) e ≡ ToAll → IfOk given (SetGives gives shards Flush) → IfOk given (SetGives gives shards e)
-  all_give e given route gave = subst (λ (f : Event). IfOk given (SetGives gives shards f)) (sym (flush_only (length shards) e route)) gave
+  one_gives e number shard (Ok reply) route here gave = rw (route, here) gave
+  one_gives e number shard (Err lack) route here gave = tt
 
   -- the only reply of a flush that is asked alone
   pub flush_given : (events : List Event) (replies rest : List PlainReply) (popped : Option PlainReply) (given : Result PlainReply E) → events ≡ Flush ∷ []
       → AllZip (SetGives gives shards) events replies → replies ≡ rest ++ option_to_list popped → popped ≡ result_ok given → IfOk given (SetGives gives shards Flush)
-  flush_given events replies rest popped given alone all off is =
-      go replies given (subst (λ (l : List Event). AllZip (SetGives gives shards) l replies) alone all) (off ∙ ap (λ (o : Option PlainReply). rest ++ option_to_list o) is)
-    where
-      go : (replies : List PlainReply) (given : Result PlainReply E) → AllZip (SetGives gives shards) (Flush ∷ []) replies → replies ≡ rest ++ option_to_list (result_ok given)
-          → IfOk given (SetGives gives shards Flush)
-      go (r ∷ []) (Ok x) each one = subst (SetGives gives shards Flush) (last_alone r x rest one) each.0
-      go (r ∷ []) (Err lack) each one = tt
-      go (r ∷ s ∷ more) given each one = absurd each.1
-      go [] given each one = absurd each
+  flush_given events replies rest popped (Err lack) alone all off is = tt
+  flush_given events (r ∷ []) rest popped (Ok x) alone all off is = rw (← last_alone r x rest (rw is at off)) (rw alone at all).0
+  flush_given events [] rest popped (Ok x) alone all off is = absurd (rw alone at all)
+  flush_given events (r ∷ s ∷ more) rest popped (Ok x) alone all off is = absurd ((rw alone at all).1)

@@ -1,43 +1,35 @@
 -- What a session is told, and more of it.
-use Rattle.std.proofs.Common.{◌≡◌, ◌⊎◌, inl, inr, ℕ, zero, suc, ◌≤◌, ◌<◌, arith, Bool, true, false, cond, List, [], ◌∷◌, ◌++◌, append_assoc, length, refl, sym}
-use Rattle.std.proofs.Common.{◌∙◌, ap, subst, Option, Some, None, Result, Ok, Err, slice_get}
-use Rattle.std.specs.List.{AllZip}
+use Rattle.silt_session.proofs.Common.{◌≡◌, ◌⊎◌, inl, inr, ℕ, zero, suc, ◌≤◌, ◌<◌, arith, Bool, false, List, [], ◌∷◌, ◌++◌, append_assoc, refl, sym, ◌∙◌, ap, rules, true, Option, Some, None}
+use Rattle.silt_session.proofs.Common.{Result, Ok, Err, slice_get, IfSome, MatchOption, AllZip, cases_Bool, same_Some, append-nil, IsPrefix, Ghosts, PlainReply, Event, CoreState, NoRoom}
+use Rattle.silt_session.proofs.Common.{Reply, Refused, change_reply, swap_reply, Caller, PlaceState, DeskState, Serves, SeatState, FindsNoRoom, PerformsLast, Performs, Answer, Flushed}
+use Rattle.silt_session.proofs.Common.{asked_event, IsToldBetween, IsToldMore, PassesOn, ToldState, own_reply, Request, Delete, Swap}
+use Rattle.std.proofs.Common.{subst, nat_le}
+use Rattle.std.proofs.lemmas.Bool.{leb-true}
+use Rattle.std.proofs.lemmas.Option.{IfSome_then}
+use Rattle.silt_event.specs.Events.{plain}
+use Rattle.silt_event.specs.declared.refusal.Refusal.TheVariants.{NotFormatted, NoMemory, HistoryFull}
+use Rattle.silt_event.specs.declared.reply.Reply.TheVariants.{Accepted, Acknowledged, Differs, Unsettled}
+use Rattle.silt_store_set.specs.Replies.{flush_reply}
+use Rattle.silt_desk.specs.CallLogs.{CallsSeen, IsMadeFor, LogsNone, PlacesCall, PlacesEvent, PlacesFlush}
+use Rattle.silt_session.specs.Batches.{PerformsRequest, WriterState}
+use Rattle.silt_session.specs.Origins.{HasDone, HasOrigin, WasFlushed}
+use Rattle.silt_session.specs.Requests.{IsNoRequest, acknowledged, changed, compared, reply_due}
+use Rattle.silt_session.specs.Tolds.{AreInOrder, AreToldBetween, AsksBehind, CallsAt, ExtendsCalls, HasCallAt, IsInLog, IsTold, RisesThrough, TakesPlace, TellsAt, ToldOf, answer_place}
+use Rattle.silt_session.specs.Tolds.{reply_place}
+use Rattle.silt_session.specs.declared.job.Request.TheVariants.{Put, Flush}
 use Rattle.std.specs.Bool.{then_some}
 use Rattle.std.specs.Option.{option_map}
-use Rattle.std.specs.Prelude.{IfSome, MatchBool, MatchOption, if◌then◌else◌, nat_le}
-use Rattle.std.proofs.lemmas.Bool.{leb-true}
-use Rattle.std.proofs.lemmas.List.{append-nil}
-use mathlib.Core.List.{IsPrefix}
 use Rattle.logbook.specs.Pages.{Book}
-use Rattle.silt_disk.specs.declared.disk.Disk.{Ghosts}
-use Rattle.silt_event.specs.Events.{PlainReply, plain}
-use Rattle.silt_event.specs.declared.event.Event.{Event}
 use Rattle.silt_frame.specs.declared.key.Key.{Key}
-use Rattle.silt_store_set.specs.CoreState.{CoreState}
 use Rattle.silt_event.specs.declared.event.Event.TheVariants as event
 use Rattle.silt_event.specs.declared.refusal.Refusal.{Refusal}
-use Rattle.silt_event.specs.declared.refusal.Refusal.TheVariants.{NotFormatted, BadGeometry, Damaged, Crowded, Device, NoMemory, StoreFull, NoRoom, Failed, Spent, HistoryFull}
-use Rattle.silt_event.specs.declared.reply.Reply.{Reply}
-use Rattle.silt_event.specs.declared.reply.Reply.TheVariants.{Accepted, Acknowledged, Found, Absent, Differs, Progress, Refused, Unsettled, NotServed}
-use Rattle.silt_store_set.specs.Replies.{change_reply, flush_reply, swap_reply}
-use Rattle.silt_desk.specs.declared.call.Caller.{Caller}
 use Rattle.silt_desk.specs.declared.call.RecordedCall.{RecordedCall}
 use Rattle.silt_desk.specs.declared.trace.Trace.{Ghosts as TraceOf}
-use Rattle.silt_desk.specs.CallLogs.{CallsSeen, IsMadeFor, LogsNone, PlaceState, PlacesCall, PlacesEvent, PlacesFlush}
-use Rattle.silt_desk.specs.DeskState.{DeskState, Refuses, Records, Serves}
 use Rattle.silt_desk.specs.History.{call, is_recorded}
 use Rattle.silt_desk.specs.Notes.{plain_answer}
-use Rattle.silt_desk.specs.Seats.{SeatState}
-use Rattle.silt_session.specs.Batches.{FindsNoRoom, PerformsLast, PerformsRequest, WriterState}
-use Rattle.silt_session.specs.Origins.{Flushes, HasDone, HasOrigin, Performs, WasFlushed}
 use Rattle.silt_session.specs.declared.task.Placed.{Placed}
-use Rattle.silt_session.specs.Requests.{Answer, Flushed, IsNoRequest, acknowledged, asked_event, changed, compared, reply_due}
 use Rattle.silt_session.specs.Sessions.{IsAnswer, IsKept, IsToldTo}
-use Rattle.silt_session.specs.Tolds.{AreInOrder, AreToldBetween, AsksBehind, CallsAt, ExtendsCalls, HasCallAt, IsInLog, IsTold, IsToldBetween, IsToldMore, PassesOn}
-use Rattle.silt_session.specs.Tolds.{RisesThrough, TakesPlace, TellsAt, ToldOf, ToldState, answer_place, own_reply, reply_place}
-use Rattle.silt_session.specs.declared.job.Request.{Request}
 use Rattle.silt_session.proofs.Callers.{flush_caller, none_caller, times_caller}
-use Rattle.silt_session.specs.declared.job.Request.TheVariants.{Put, Delete, Swap, Flush}
 
 -- ---- all calls of a trace
 
@@ -65,42 +57,34 @@ get_more (y ∷ xs) zs (suc k) x at = get_more xs zs k x at
 
 module _ (session from : ℕ) (calls more : List RecordedCall) (begins : IsPrefix calls more) where
   stands_more : (k : ℕ) (e : Event) (r : PlainReply) → HasCallAt session from calls k e r → HasCallAt session from more k e r
-  stands_more k e r (late, at) =
-      (late, (at.0, at.1, subst (λ (l : List RecordedCall). slice_get l k ≡ Some (call at.0 e r)) begins.1 (get_more calls begins.0 k (call at.0 e r) at.2)))
+  stands_more k e r (late, (caller, made, is)) = (late, (caller, made, rw begins.1 at (get_more calls begins.0 k (call caller e r) is)))
 
   -- what stands in a beginning of the calls stands in them
   pub told_more : (e : Event) (r : PlainReply) → IsTold session from calls e r → IsTold session from more e r
-  told_more e (Accepted n) (place, at, (behind, m, order, covers, flush)) =
-      (place, stands_more place e (Accepted n) at, (behind, m, order, covers, stands_more behind event.Flush (Acknowledged m) flush))
-  told_more e (Unsettled n) (place, at) = (place, stands_more place e (Accepted n) at)
-  told_more e Differs (place, at) = (place, stands_more place e Differs at)
-  told_more e (Acknowledged m) (place, at) = (place, stands_more place event.Flush (Acknowledged m) at)
+  told_more e (Accepted n) (place, here, (behind, m, order, covers, flush)) =
+      (place, stands_more place e (Accepted n) here, (behind, m, order, covers, stands_more behind event.Flush (Acknowledged m) flush))
+  told_more e (Unsettled n) told = (told.0, stands_more told.0 e (Accepted n) told.1)
+  told_more e Differs told = (told.0, stands_more told.0 e Differs told.1)
+  told_more e (Acknowledged m) told = (told.0, stands_more told.0 event.Flush (Acknowledged m) told.1)
   told_more e (Refused NoMemory) told = tt
   told_more e (Refused HistoryFull) told = tt
-  told_more e (Refused NotFormatted) (place, at) = (place, stands_more place e (Refused NotFormatted) at)
-  told_more e (Refused BadGeometry) (place, at) = (place, stands_more place e (Refused BadGeometry) at)
-  told_more e (Refused (Damaged part)) (place, at) = (place, stands_more place e (Refused (Damaged part)) at)
-  told_more e (Refused Crowded) (place, at) = (place, stands_more place e (Refused Crowded) at)
-  told_more e (Refused (Device fault)) (place, at) = (place, stands_more place e (Refused (Device fault)) at)
-  told_more e (Refused StoreFull) (place, at) = (place, stands_more place e (Refused StoreFull) at)
-  told_more e (Refused NoRoom) (place, at) = (place, stands_more place e (Refused NoRoom) at)
-  told_more e (Refused Failed) (place, at) = (place, stands_more place e (Refused Failed) at)
-  told_more e (Refused Spent) (place, at) = (place, stands_more place e (Refused Spent) at)
-  told_more e (Found value) told = tt
+  told_more e (Refused NotFormatted) told = (told.0, stands_more told.0 e (Refused NotFormatted) told.1)
+  told_more e (Refused refusal) told = (told.0, stands_more told.0 e (Refused refusal) told.1)
   told_more e reply told = tt
 
-of_more : (session from : ℕ) (e : Event) (r : PlainReply) (old new : Option (List RecordedCall)) → ExtendsCalls old new
-    → IfSome old (λ calls. IsTold session from calls e r) → IfSome new (λ calls. IsTold session from calls e r)
-of_more session from e r None None goes told = tt
-of_more session from e r None (Some more) goes told = absurd (cc)
-of_more session from e r (Some calls) None goes told = absurd goes
-of_more session from e r (Some calls) (Some more) goes told = told_more session from calls more goes e r told
+-- what holds of some calls, and of more too
+extended : (P : List RecordedCall → Type 0) → ((calls more : List RecordedCall) → IsPrefix calls more → P calls → P more) → (old new : Option (List RecordedCall))
+    → ExtendsCalls old new → IfSome old P → IfSome new P
+extended P longer None None goes held = tt
+extended P longer None (Some more) goes held = absurd (cc)
+extended P longer (Some calls) None goes held = absurd goes
+extended P longer (Some calls) (Some more) goes held = longer calls more goes held
 
 -- what was told stays told
 pub told_stays : (old new : ToldState) → IsToldMore old new → (e : Event) (r : PlainReply) → ToldOf old e r → ToldOf new e r
 told_stays old new more e r told =
-    subst (λ (n : ℕ). IfSome new.calls (λ calls. IsTold new.session n calls e r)) (sym more.from)
-    (subst (λ (s : ℕ). IfSome new.calls (λ calls. IsTold s old.from calls e r)) (sym more.session) (of_more old.session old.from e r old.calls new.calls more.calls told))
+    rw (more.from, more.session) (extended (λ calls. IsTold old.session old.from calls e r) (λ calls longer begins. told_more old.session old.from calls longer begins e r)
+    old.calls new.calls more.calls told)
 
 -- ---- what goes on
 
@@ -111,10 +95,8 @@ goes_none (Some calls) = ([], append-nil calls)
 goes_both : (a b c : Option (List RecordedCall)) → ExtendsCalls a b → ExtendsCalls b c → ExtendsCalls a c
 goes_both None None c first second = second
 goes_both None (Some calls) c first second = absurd (cc)
-goes_both (Some calls) None c first second = absurd first
-goes_both (Some calls) (Some more) None first second = absurd second
-goes_both (Some calls) (Some more) (Some most) first second =
-    (first.0 ++ second.0, sym (append_assoc calls first.0 second.0) ∙ ap (λ (l : List RecordedCall). l ++ second.0) first.1 ∙ second.1)
+goes_both (Some calls) (Some more) (Some most) first second = (first.0 ++ second.0, cc (append_assoc calls first.0 second.0, first.1, second.1))
+goes_both a b c first second = search rules
 
 pub more_none : (told : ToldState) → IsToldMore told told
 more_none told = record { session = refl; from = refl; next = omega arith; shard = refl; calls = goes_none told.calls }
@@ -128,15 +110,11 @@ more_both a b c first second = record {
   calls = goes_both a.calls b.calls c.calls first.calls second.calls;
 }
 
-asked_from : (old : Option (List RecordedCall)) (a b : ℕ) → b ≡ a → IfSome old (λ calls. a ≡ length calls) → IfSome old (λ calls. b ≡ length calls)
-asked_from None a b same is = tt
-asked_from (Some calls) a b same is = same ∙ is
-
 -- events that were asked behind what was told, and more is told then
 pub asked_more : (a b c : ToldState) → AsksBehind a b → IsToldMore b c → AsksBehind a c
 asked_more a b c asks more = record {
   session = more.session ∙ asks.session;
-  from = asked_from a.calls b.from c.from more.from asks.from;
+  from = rw more.from asks.from;
   next = omega (arith, asks.next, more.from, more.next);
   shard = more.shard ∙ asks.shard;
   calls = goes_both a.calls b.calls c.calls asks.calls more.calls;
@@ -152,21 +130,20 @@ passes_both a b c first second = record { same = second.same ∙ ap (λ (s : Tol
 
 -- no less is told then
 pub more_passed : (old new : ToldState) → PassesOn old new → IsToldMore old new
-more_passed old new passed = record {
-  session = ap (λ (s : ToldState). s.session) passed.same;
-  from = ap (λ (s : ToldState). s.from) passed.same;
-  next = passed.next;
-  shard = ap (λ (s : ToldState). s.shard) passed.same;
-  calls = subst (λ (s : ToldState). ExtendsCalls old.calls s.calls) (sym passed.same) (goes_none old.calls);
-}
+more_passed old new passed =
+    rw passed.same (record { session = refl; from = refl; next = passed.next; shard = refl; calls = goes_none old.calls })
 
 match_more : {X A B : Type 0} (P Q : X → Type 0) → (A → B) → ((x : X) → P x → Q x) → (o : Option X) → MatchOption o A P → MatchOption o B Q
 match_more P Q none some None holds = none holds
 match_more P Q none some (Some x) holds = some x holds
 
-if_holds : {X : Type 0} (A : Type 0) → A → (o : Option X) → IfSome o (λ x. A)
-if_holds A holds None = tt
-if_holds A holds (Some x) = holds
+both_hold : {X : Type 0} (P Q R : X → Type 0) → ((x : X) → P x → Q x → R x) → (o : Option X) → IfSome o P → IfSome o Q → IfSome o R
+both_hold P Q R both None p q = tt
+both_hold P Q R both (Some x) p q = both x p q
+
+all_hold : {X : Type 0} (P : X → Type 0) → ((x : X) → P x) → (o : Option X) → IfSome o P
+all_hold P holds None = tt
+all_hold P holds (Some x) = holds x
 
 module _ (session : ℕ) where
   -- where an own call stands
@@ -188,92 +165,58 @@ module _ (session : ℕ) where
   through_more calls more begins next after [] [] rises = rises
   through_more calls more begins next after (e ∷ events) (r ∷ replies) (mid, takes, rest) =
       (mid, takes_more calls more begins next mid e r takes, through_more calls more begins mid after events replies rest)
-  through_more calls more begins next after [] (r ∷ replies) rises = absurd rises
-  through_more calls more begins next after (e ∷ events) [] rises = absurd rises
+  through_more calls more begins next after events replies rises = absurd rises
 
   through_from : (calls : List RecordedCall) (a b after : ℕ) → a ≤ b → (events : List Event) (replies : List PlainReply)
       → RisesThrough session b calls events replies after → RisesThrough session a calls events replies after
   through_from calls a b after le [] [] rises = omega (arith, le, rises)
   through_from calls a b after le (e ∷ events) (r ∷ replies) (mid, takes, rest) = (mid, takes_from calls a b mid le e r takes, rest)
-  through_from calls a b after le [] (r ∷ replies) rises = absurd rises
-  through_from calls a b after le (e ∷ events) [] rises = absurd rises
+  through_from calls a b after le events replies rises = absurd rises
 
   through_append : (calls : List RecordedCall) (a b c : ℕ) (xs ys : List Event) (rs ss : List PlainReply)
       → RisesThrough session a calls xs rs b → RisesThrough session b calls ys ss c → RisesThrough session a calls (xs ++ ys) (rs ++ ss) c
   through_append calls a b c [] ys [] ss first second = through_from calls a b c first ys ss second
   through_append calls a b c (x ∷ xs) ys (r ∷ rs) ss (mid, takes, rest) second = (mid, takes, through_append calls mid b c xs ys rs ss rest second)
-  through_append calls a b c [] ys (r ∷ rs) ss first second = absurd first
-  through_append calls a b c (x ∷ xs) ys [] ss first second = absurd first
-
-  takes_less : (calls : Option (List RecordedCall)) (a b after : ℕ) → a ≤ b → (e : Event) (r : PlainReply)
-      → IfSome calls (λ l. TakesPlace session b l e r after) → IfSome calls (λ l. TakesPlace session a l e r after)
-  takes_less None a b after le e r takes = tt
-  takes_less (Some l) a b after le e r takes = takes_from l a b after le e r takes
-
-  between_more : (next after : ℕ) (events : List Event) (replies : List PlainReply) (old new : Option (List RecordedCall)) → ExtendsCalls old new
-      → IfSome old (λ calls. RisesThrough session next calls events replies after) → IfSome new (λ calls. RisesThrough session next calls events replies after)
-  between_more next after events replies None None goes told = tt
-  between_more next after events replies None (Some more) goes told = absurd (cc)
-  between_more next after events replies (Some calls) None goes told = absurd goes
-  between_more next after events replies (Some calls) (Some more) goes told = through_more calls more goes next after events replies told
-
-  between_append : (calls : Option (List RecordedCall)) (a b c : ℕ) (xs ys : List Event) (rs ss : List PlainReply)
-      → IfSome calls (λ l. RisesThrough session a l xs rs b) → IfSome calls (λ l. RisesThrough session b l ys ss c) → IfSome calls (λ l. RisesThrough session a l (xs ++ ys) (rs ++ ss) c)
-  between_append None a b c xs ys rs ss first second = tt
-  between_append (Some l) a b c xs ys rs ss first second = through_append l a b c xs ys rs ss first second
-
-  between_cons : (calls : Option (List RecordedCall)) (next mid after : ℕ) (e : Event) (r : PlainReply) (events : List Event) (replies : List PlainReply)
-      → IfSome calls (λ l. TakesPlace session next l e r mid) → IfSome calls (λ l. RisesThrough session mid l events replies after)
-      → IfSome calls (λ l. RisesThrough session next l (e ∷ events) (r ∷ replies) after)
-  between_cons None next mid after e r events replies takes rest = tt
-  between_cons (Some l) next mid after e r events replies takes rest = (mid, takes, rest)
-
-  takes_none : (calls : Option (List RecordedCall)) (next : ℕ) (e : Event) (r : PlainReply) → own_reply e r ≡ None → IfSome calls (λ l. TakesPlace session next l e r next)
-  takes_none None next e r none = tt
-  takes_none (Some l) next e r none = subst (λ (o : Option PlainReply). MatchOption o (next ≤ next) (OwnAt next l e next)) (sym none) (omega arith)
+  through_append calls a b c xs ys rs ss first second = absurd first
 
 own_none : (e : Event) (r : PlainReply) → IsNoRequest e → own_reply e r ≡ None
-own_none (event.Get key) r is = refl
-own_none event.Convert r is = refl
-own_none event.Merge r is = refl
-own_none event.Flush r is = refl
-own_none (event.Put key value) r is = absurd is
-own_none (event.Delete key) r is = absurd is
-own_none (event.Swap key expected value) r is = absurd is
+own_none e r is = grind arith
 
 -- what stands in order stands so in more calls
 pub order_stays : (old new : ToldState) → IsToldMore old new → (next after : ℕ) (events : List Event) (replies : List PlainReply)
     → AreToldBetween old next events replies after → AreToldBetween new next events replies after
 order_stays old new more next after events replies rises =
-    subst (λ (s : ℕ). IfSome new.calls (λ calls. RisesThrough s next calls events replies after)) (sym more.session)
-    (between_more old.session next after events replies old.calls new.calls more.calls rises)
+    rw more.session (extended (λ calls. RisesThrough old.session next calls events replies after)
+    (λ calls longer begins. through_more old.session calls longer begins next after events replies) old.calls new.calls more.calls rises)
 
 module _ (told : ToldState) where
   -- nothing is in order
   pub order_none : (next after : ℕ) → next ≤ after → AreToldBetween told next [] [] after
-  order_none next after le = if_holds (next ≤ after) le told.calls
+  order_none next after le = all_hold (λ calls. next ≤ after) (λ calls. le) told.calls
 
   -- one event is in front
   pub order_cons : (next mid after : ℕ) (e : Event) (r : PlainReply) (events : List Event) (replies : List PlainReply)
       → IsToldBetween told next e r mid → AreToldBetween told mid events replies after → AreToldBetween told next (e ∷ events) (r ∷ replies) after
-  order_cons next mid after e r events replies takes rest = between_cons told.session told.calls next mid after e r events replies takes rest
+  order_cons next mid after e r events replies takes rest =
+      both_hold (λ calls. TakesPlace told.session next calls e r mid) (λ calls. RisesThrough told.session mid calls events replies after) _ (λ calls one more. (mid, one, more)) told.calls takes rest
 
   -- others are behind
   pub order_append : (a b c : ℕ) (xs ys : List Event) (rs ss : List PlainReply)
       → AreToldBetween told a xs rs b → AreToldBetween told b ys ss c → AreToldBetween told a (xs ++ ys) (rs ++ ss) c
-  order_append a b c xs ys rs ss first second = between_append told.session told.calls a b c xs ys rs ss first second
+  order_append a b c xs ys rs ss first second =
+      both_hold (λ calls. RisesThrough told.session a calls xs rs b) (λ calls. RisesThrough told.session b calls ys ss c) _
+      (λ calls. through_append told.session calls a b c xs ys rs ss) told.calls first second
 
   -- an event with no call of its own takes no place
   pub order_same : (next : ℕ) (e : Event) (r : PlainReply) → own_reply e r ≡ None → IsToldBetween told next e r next
-  order_same next e r none = takes_none told.session told.calls next e r none
+  order_same next e r none = all_hold (λ calls. TakesPlace told.session next calls e r next) (λ calls. rw none (omega arith)) told.calls
 
 -- one command that took its place is in order
 pub order_one : (old new : ToldState) → old.from ≤ old.next → PassesOn old new → (e : Event) (r : PlainReply)
     → IsToldBetween old old.next e r new.next → AreInOrder new (e ∷ []) (r ∷ [])
 order_one old new le passed e r takes =
-    let from_here : IsToldBetween old old.from e r new.next = takes_less old.session old.calls old.from old.next new.next le e r takes in
-    subst (λ (s : ToldState). AreToldBetween s s.from (e ∷ []) (r ∷ []) new.next) (sym passed.same)
-    (order_cons old old.from new.next new.next e r [] [] from_here (order_none old new.next new.next (omega arith)))
+    let from_here = IfSome_then old.calls takes (λ calls. takes_from old.session calls old.from old.next new.next le e r) in
+    rw passed.same (order_cons old old.from new.next new.next e r [] [] from_here (order_none old new.next new.next (omega arith)))
 
 -- and so is a reply to one event with no call of its own
 pub order_shown : (told : ToldState) → told.from ≤ told.next → (e : Event) → IsNoRequest e → (r : PlainReply) → AreInOrder told (e ∷ []) (r ∷ [])
@@ -302,28 +245,15 @@ module _ {D F T : Type 0} (facts : Ghosts D F) (trace : TraceOf T) (settles : Bo
   answer_more (event.Get key) r (inr (inr (so, refused, came))) = inr (inr (so, refused, to_more Flush r came))
   answer_more event.Convert r is = is
   answer_more event.Merge r is = is
-  answer_more (event.Put key value) r (inl none) = inl none
-  answer_more (event.Put key value) r (inr (request, asks, came)) = inr (request, asks, to_more request r came)
-  answer_more (event.Delete key) r (inl none) = inl none
-  answer_more (event.Delete key) r (inr (request, asks, came)) = inr (request, asks, to_more request r came)
-  answer_more (event.Swap key was is) r (inl none) = inl none
-  answer_more (event.Swap key was is) r (inr (request, asks, came)) = inr (request, asks, to_more request r came)
-  answer_more event.Flush r (inl none) = inl none
-  answer_more event.Flush r (inr (request, asks, came)) = inr (request, asks, to_more request r came)
+  answer_more (event.Put key value) r is = elim is [ inl none ↦ inl none | inr (request, asks, came) ↦ inr (request, asks, to_more request r came) ]
+  answer_more event r is = elim is [ inl none ↦ inl none | inr (request, asks, came) ↦ inr (request, asks, to_more request r came) ]
 
   pub answers_more : (events : List Event) (replies : List PlainReply) → AllZip (IsAnswer facts trace old settles) events replies → AllZip (IsAnswer facts trace new settles) events replies
   answers_more [] [] are = tt
   answers_more (e ∷ events) (r ∷ replies) are = (answer_more e r are.0, answers_more events replies are.1)
-  answers_more [] (r ∷ replies) are = absurd are
-  answers_more (e ∷ events) [] are = absurd are
+  answers_more events replies are = absurd are
 
 -- ---- where a call stands
-
--- an event's call by this caller was made for the session
-made_for : (session : ℕ) (caller : Caller) → caller.session ≡ Some session → (e : Event) → IsMadeFor session e caller
-made_for session caller is event.Flush = tt
-made_for session caller is (event.Put key value) = is
-made_for session caller is event = is
 
 -- what a place is known by
 places_event : (named : ℕ → Option Book) (session : ℕ) (caller : Caller) (e : Event) (r : PlainReply) (place : Option PlaceState) → IsMadeFor session e caller
@@ -340,13 +270,10 @@ module _ {D F T : Type 0} (facts : Ghosts D F) (trace : TraceOf T) where
   -- the seat has the place of a call that was recorded
   served_place : (session : ℕ) (old new : DeskState D T) (seat after : SeatState) (e : Event) (r : Reply F) → IsMadeFor session e seat.caller
       → Serves facts trace old new seat after e r → PlacesEvent trace.log session e (plain r) (reply_place (plain r) after.last)
-  served_place session old new seat after e r made serves =
-      let go : (b : Bool) → is_recorded r ≡ b → MatchBool b (Records facts trace old new seat after e r) (Refuses facts trace old new seat after e r)
-      → PlacesEvent trace.log session e (plain r) (if b then after.last else None) = elim [
-        | true ↦ λ is records. places_event trace.log session seat.caller e (plain r) after.last made records.seated.place
-        | false ↦ λ is refuses. tt
-      ] in
-      subst (λ (b : Bool). PlacesEvent trace.log session e (plain r) (if b then after.last else None)) (sym (recorded_plain r)) (go (is_recorded r) refl serves)
+  served_place session old new seat after e r made serves = rw (recorded_plain r) (elim (cases_Bool (is_recorded r)) [
+    | inl is ↦ let records = rw is at serves in rw is (places_event trace.log session seat.caller e (plain r) after.last made records.seated.place)
+    | inr is ↦ rw is tt
+  ])
 
   change_told : (answer : Result ℕ (Refusal F)) → swap_reply (compared (plain_answer answer)) ≡ plain (change_reply answer)
   change_told (Ok n) = refl
@@ -361,31 +288,17 @@ module _ {D F T : Type 0} (facts : Ghosts D F) (trace : TraceOf T) where
   flush_told (Ok n) = refl
   flush_told (Err refusal) = refl
 
-  place_as : (session : ℕ) (e : Event) (r s : PlainReply) (last : Option PlaceState) → s ≡ r → PlacesEvent trace.log session e r (reply_place r last)
-      → PlacesEvent trace.log session e s (reply_place s last)
-  place_as session e r s last is places = subst (λ (x : PlainReply). PlacesEvent trace.log session e x (reply_place x last)) (sym is) places
-
-  -- the seat has the place of a flush
-  pub flushed_place : (old new : DeskState D T) (seat after : SeatState) (flushed : Flushed) → Flushes facts trace old new seat after flushed
-      → PlacesFlush trace.log (acknowledged flushed) (reply_place (acknowledged flushed) after.last)
-  flushed_place old new seat after flushed (reported, is, serves, agrees) =
-      place_as 0 event.Flush (plain (flush_reply reported)) (acknowledged flushed) after.last (ap acknowledged is ∙ flush_told reported)
-      (served_place 0 old new seat after event.Flush (flush_reply reported) tt serves)
-
   module _ (session : ℕ) where
     -- the seat has the place of a request's call, if its calls are made for the session
     performed_place : (old new : DeskState D T) (seat after : SeatState) (request : Request) (answer : Option Answer) → seat.caller.session ≡ Some session
         → Performs facts trace old new seat after request answer → CallsAt trace.log session request answer (answer_place answer after.last)
     performed_place old new seat after request None for performs = refl
     performed_place old new seat after (Put key value) (Some answer) for (reported, is, serves, agrees) =
-        place_as session (event.Put key value) (plain (change_reply reported)) (swap_reply answer) after.last (ap swap_reply is ∙ change_told reported)
-        (served_place session old new seat after (event.Put key value) (change_reply reported) for serves)
+        rw (is, change_told reported) (served_place session old new seat after (event.Put key value) (change_reply reported) for serves)
     performed_place old new seat after (Delete key) (Some answer) for (reported, is, serves, agrees) =
-        place_as session (event.Delete key) (plain (change_reply reported)) (swap_reply answer) after.last (ap swap_reply is ∙ change_told reported)
-        (served_place session old new seat after (event.Delete key) (change_reply reported) for serves)
+        rw (is, change_told reported) (served_place session old new seat after (event.Delete key) (change_reply reported) for serves)
     performed_place old new seat after (Swap key expected value) (Some answer) for (reported, is, serves, agrees) =
-        place_as session (event.Swap key expected value) (plain (swap_reply reported)) (swap_reply answer) after.last (ap swap_reply is ∙ swap_told reported)
-        (served_place session old new seat after (event.Swap key expected value) (swap_reply reported) for serves)
+        rw (is, swap_told reported) (served_place session old new seat after (event.Swap key expected value) (swap_reply reported) for serves)
     performed_place old new seat after Flush (Some answer) for performs = absurd performs
 
     last_place : (seat after : SeatState) (request : Request) (answer : Option Answer) → seat.caller.session ≡ Some session
@@ -395,8 +308,7 @@ module _ {D F T : Type 0} (facts : Ghosts D F) (trace : TraceOf T) where
     refused_place : (seat after : SeatState) (request : Request) (answer : Option Answer) → seat.caller.session ≡ Some session → answer ≡ Some (Err NoRoom)
         → FindsNoRoom facts trace seat request after → CallsAt trace.log session request answer (answer_place answer after.last)
     refused_place seat after request answer for is (before, later, performs, same, work) =
-        subst (λ (a : Option Answer). CallsAt trace.log session request a (answer_place a after.last)) (sym is)
-        (performed_place before later seat after request (Some (Err NoRoom)) for performs)
+        rw is (performed_place before later seat after request (Some (Err NoRoom)) for performs)
 
     -- the seat has the place of the last call of a request that was done, if its calls were made for the session before
     pub done_place : {N : Type 0} (seconds : ℕ) (is_over : Type 0) (writer after : WriterState D T N F) (request : Request) (answer : Option Answer)
@@ -408,12 +320,7 @@ module _ {D F T : Type 0} (facts : Ghosts D F) (trace : TraceOf T) where
         let same = times_caller facts trace times second mid request tried ∙ flush_caller facts trace ends.1 ends.2 first second ends.0 ends.3
         ∙ none_caller facts trace writer.seat first request finds in
         let still : mid.caller.session ≡ Some session = ap (λ (c : Caller). c.session) same ∙ for in
-        let go : PerformsLast facts trace mid request answer after.seat ⊎ ((answer ≡ Some (Err NoRoom)) × FindsNoRoom facts trace mid request after.seat × ((times ≡ 6) ⊎ is_over))
-        → CallsAt trace.log session request answer (answer_place answer after.seat.last) = elim [
-          | inl last ↦ last_place mid after.seat request answer still last
-          | inr none ↦ refused_place mid after.seat request answer still none.0 none.1
-        ] in
-        go ended
+        elim ended [ inl last ↦ last_place mid after.seat request answer still last | inr (is, refused, over) ↦ refused_place mid after.seat request answer still is refused ]
 
 -- ---- the reply of a task
 
@@ -421,15 +328,11 @@ module _ {D F T : Type 0} (facts : Ghosts D F) (trace : TraceOf T) where
 changed_tells : (named : ℕ → Option Book) (session : ℕ) (e : Event) (answer : Answer) (flushed : Flushed) (call flush : Option PlaceState)
     → ((refusal : Refusal (Unit {0})) → PlacesEvent named session e (Refused refusal) call → TellsAt named session e (Refused refusal) call flush)
     → PlacesEvent named session e (swap_reply answer) call → PlacesFlush named (acknowledged flushed) flush → TellsAt named session e (changed answer flushed) call flush
-changed_tells named session e (Err refusal) flushed call flush refused at behind = refused refusal at
-changed_tells named session e (Ok None) flushed call flush refused at behind = at
-changed_tells named session e (Ok (Some n)) (Ok m) call flush refused at behind =
-    let go : (b : Bool) → nat_le n m ≡ b → TellsAt named session e (cond b (Accepted n) (Unsettled n)) call flush = elim [
-      | true ↦ λ covers. (at, (m, leb-true n m covers, behind))
-      | false ↦ λ few. at
-    ] in
-    go (nat_le n m) refl
-changed_tells named session e (Ok (Some n)) (Err refusal) call flush refused at behind = at
+changed_tells named session e (Err refusal) flushed call flush refused here behind = refused refusal here
+changed_tells named session e (Ok None) flushed call flush refused here behind = here
+changed_tells named session e (Ok (Some n)) (Ok m) call flush refused here behind =
+    elim (cases_Bool (nat_le n m)) [ inl covers ↦ rw covers (here, (m, leb-true n m covers, behind)) | inr few ↦ rw few here ]
+changed_tells named session e (Ok (Some n)) (Err refusal) call flush refused here behind = here
 
 flush_tells : (named : ℕ → Option Book) (session : ℕ) (flushed : Flushed) (call flush : Option PlaceState) → PlacesFlush named (acknowledged flushed) flush
     → TellsAt named session event.Flush (acknowledged flushed) call flush
@@ -437,36 +340,29 @@ flush_tells named session (Ok m) call flush behind = behind
 flush_tells named session (Err refusal) call flush behind = behind
 
 module _ (named : ℕ → Option Book) (session : ℕ) (flushed : Flushed) (reply : PlainReply) (call flush : Option PlaceState) (behind : PlacesFlush named (acknowledged flushed) flush) where
-  its_reply : (e : Event) (due : PlainReply) → Some due ≡ Some reply → TellsAt named session e due call flush → TellsAt named session e reply call flush
-  its_reply e due is tells = let same : due ≡ reply = cc in subst (λ (r : PlainReply). TellsAt named session e r call flush) same tells
+  its_reply : (e : Event) (answer : Answer) → Some (changed answer flushed) ≡ Some reply
+      → ((refusal : Refusal (Unit {0})) → PlacesEvent named session e (Refused refusal) call → TellsAt named session e (Refused refusal) call flush)
+      → PlacesEvent named session e (swap_reply answer) call → TellsAt named session e reply call flush
+  its_reply e answer is refused here = rw (same_Some (changed answer flushed) reply is) at (changed_tells named session e answer flushed call flush refused here behind)
 
   -- a task's reply speaks of its call and of the flush
   pub due_tells : (request : Request) (answer : Option Answer) → reply_due request answer flushed ≡ Some reply → CallsAt named session request answer call
       → TellsAt named session (asked_event request) reply call flush
-  due_tells Flush answer due at = its_reply event.Flush (acknowledged flushed) due (flush_tells named session flushed call flush behind)
-  due_tells (Put key value) None due at = absurd (cc)
-  due_tells (Put key value) (Some (Ok None)) due at = absurd (cc)
-  due_tells (Put key value) (Some (Ok (Some n))) due at =
-      its_reply (event.Put key value) (changed (Ok (Some n)) flushed) due (changed_tells named session (event.Put key value) (Ok (Some n)) flushed call flush (λ refusal is. is) at behind)
-  due_tells (Put key value) (Some (Err refusal)) due at =
-      its_reply (event.Put key value) (changed (Err refusal) flushed) due (changed_tells named session (event.Put key value) (Err refusal) flushed call flush (λ refusal is. is) at behind)
-  due_tells (Delete key) None due at = absurd (cc)
-  due_tells (Delete key) (Some (Ok None)) due at = absurd (cc)
-  due_tells (Delete key) (Some (Ok (Some n))) due at =
-      its_reply (event.Delete key) (changed (Ok (Some n)) flushed) due (changed_tells named session (event.Delete key) (Ok (Some n)) flushed call flush (λ refusal is. is) at behind)
-  due_tells (Delete key) (Some (Err refusal)) due at =
-      its_reply (event.Delete key) (changed (Err refusal) flushed) due (changed_tells named session (event.Delete key) (Err refusal) flushed call flush (λ refusal is. is) at behind)
-  due_tells (Swap key old new) None due at = absurd (cc)
-  due_tells (Swap key old new) (Some answer) due at =
-      its_reply (event.Swap key old new) (changed answer flushed) due (changed_tells named session (event.Swap key old new) answer flushed call flush (λ refusal is. is) at behind)
+  due_tells Flush answer due here = rw (same_Some (acknowledged flushed) reply due) at (flush_tells named session flushed call flush behind)
+  due_tells (Put key value) (Some (Ok None)) due here = absurd (cc)
+  due_tells (Put key value) (Some answer) due here = its_reply (event.Put key value) answer due (λ refusal is. is) here
+  due_tells (Delete key) (Some (Ok None)) due here = absurd (cc)
+  due_tells (Delete key) (Some answer) due here = its_reply (event.Delete key) answer due (λ refusal is. is) here
+  due_tells (Swap key old new) (Some answer) due here = its_reply (event.Swap key old new) answer due (λ refusal is. is) here
+  due_tells request None due here = absurd (cc)
 
 named_place : (named : ℕ → Option Book) (session : ℕ) (e : Event) (r : PlainReply) (place : Option PlaceState) → PlacesEvent named session e r place → IsInLog named place
 named_place named session e r None places = tt
 named_place named session e r (Some place) places = places.0
 
 named_call : (named : ℕ → Option Book) (session : ℕ) (request : Request) (answer : Option Answer) (place : Option PlaceState) → CallsAt named session request answer place → IsInLog named place
-named_call named session request None place at = subst (λ (p : Option PlaceState). IsInLog named p) (sym at) tt
-named_call named session request (Some answer) place at = named_place named session (asked_event request) (swap_reply answer) place at
+named_call named session request None place here = rw here tt
+named_call named session request (Some answer) place here = named_place named session (asked_event request) (swap_reply answer) place here
 
 module _ {D F T : Type 0} (facts : Ghosts D F) (trace : TraceOf T) (session : ℕ) (request : Request) (answer : Option Answer) (call : Option PlaceState) where
   -- what a task with a reply knows
@@ -496,5 +392,5 @@ module _ {D F T : Type 0} (facts : Ghosts D F) (trace : TraceOf T) (session : �
 
 -- what is shown only if this is true
 pub shows_then : {X : Type 0} (P : X → Type 0) (b : Bool) (x : X) (found : Option X) → found ≡ then_some b x → (b ≡ true → P x) → IfSome found P
-shows_then P true x found is holds = subst (λ (o : Option _). IfSome o P) (sym is) (holds refl)
-shows_then P false x found is holds = subst (λ (o : Option _). IfSome o P) (sym is) tt
+shows_then P true x found is holds = rw is (holds refl)
+shows_then P false x found is holds = rw is tt

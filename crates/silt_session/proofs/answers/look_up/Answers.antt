@@ -1,11 +1,9 @@
-use Rattle.std.proofs.Common.{◌≡◌, ℕ, List, ap, arith, length, refl, subst, sym, ◌∙◌}
-use Rattle.std.specs.Prelude.{None}
-use Rattle.silt_event.specs.declared.refusal.Refusal.{Refusal}
-use Rattle.silt_event.specs.declared.reply.Reply.TheVariants.{Refused}
+use Rattle.silt_session.proofs.Common.{◌≡◌, ◌∙◌, ℕ, List, ap, arith, length, refl, sym, Refused}
+use Rattle.std.proofs.Common.{subst}
 use Rattle.silt_session.specs.Pipelines.{Looks, shown_of}
 use Rattle.silt_session.specs.declared.place.Shown.{Shown}
-use Rattle.silt_session.proofs.Lists.{written_back}
-use Rattle.silt_session.proofs.Pipelines.{look_shows, refusal_shows}
+use Rattle.silt_shards.proofs.Lists.{written_back}
+use Rattle.silt_session.proofs.Pipelines.{look_shows}
 use Rattle.silt_session.proofs.answers.look_up.Goals as goal
 
 pub returns-in-Ok : goal.returns-in-Ok
@@ -18,5 +16,4 @@ returns-in-Ok g c =
 
 pub returns-in-Err : goal.returns-in-Err
 returns-in-Err g c =
-    refusal_shows g.D.Disk c.args.settles c.args.desk.now.core c.args.key.now c.in-Err.refusal c.now.result c.in-Err.ensures.reply
-    (c.now.ensures ∙ ap (λ (r : Refusal (Unit {0})). record { reply = Refused r; until = None }) c.plain.ensures)
+    rw (c.now.ensures, c.plain.ensures) (c.args.desk.now.core, (Refused c.in-Err.refusal, c.in-Err.ensures.reply, refl), λ yes_settles honest. refl)

@@ -1,5 +1,4 @@
-use Rattle.std.proofs.Common.{◌≡◌, ◌≤◌, ◌+◌, ◌++◌, length, vec_capacity, vec_len}
-use Rattle.std.specs.Vec.Iter.{into_iter_items}
+use Rattle.silt_session.proofs.Common.{◌≡◌, ◌≤◌, ◌+◌, ◌++◌, length, vec_capacity, vec_len, into_iter_items}
 use Rattle.silt_session.proofs.client.append.Given as goal
 
 -- the items so far are appended, and there is room for the others

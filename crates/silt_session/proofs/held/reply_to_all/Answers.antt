@@ -1,7 +1,6 @@
-use Rattle.std.proofs.Common.{refl, sym, ◌∙◌}
-use Rattle.std.proofs.lemmas.List.{length-set}
-use Rattle.silt_session.specs.Batches.{RepliesToAll, RepliesToJob}
-use Rattle.silt_session.proofs.Lists.{changed_all, zip_next, rest_next}
+use Rattle.silt_session.proofs.Common.{refl, sym, ◌∙◌, length-set, RepliesToAll, rest_next}
+use Rattle.silt_session.specs.Batches.{RepliesToJob}
+use Rattle.silt_session.proofs.Lists.{changed_all, zip_next}
 use Rattle.silt_session.proofs.held.reply_to_all.Goals as goal
 
 pub loop-job-init : goal.loop-job-init

@@ -1,5 +1,4 @@
-use Rattle.std.proofs.Common.{◌≡◌, length, take, drop}
-use Rattle.silt_session.specs.Batches.{RepliesToAll}
+use Rattle.silt_session.proofs.Common.{◌≡◌, length, take, drop, RepliesToAll}
 use Rattle.silt_session.proofs.held.reply_to_all.Given as goal
 
 -- the tasks of the jobs so far have their replies, and the others are as they were

@@ -1,5 +1,4 @@
-use Rattle.std.proofs.Common.{ap, sym, ◌∙◌}
-use Rattle.std.specs.Prelude.{Some}
+use Rattle.silt_session.proofs.Common.{ap, sym, ◌∙◌, Some}
 use Rattle.silt_session.proofs.Batches.{replied_same}
 use Rattle.silt_session.proofs.held.reply_to_job.Goals as goal
 

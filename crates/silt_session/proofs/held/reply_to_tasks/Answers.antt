@@ -1,8 +1,5 @@
-use Rattle.std.proofs.Common.{refl, sym, ◌∙◌}
-use Rattle.std.specs.List.{AllZip}
-use Rattle.std.proofs.lemmas.List.{length-set}
-use Rattle.silt_session.specs.Batches.{RepliesTo}
-use Rattle.silt_session.proofs.Lists.{changed_all, zip_next, rest_next}
+use Rattle.silt_session.proofs.Common.{refl, sym, ◌∙◌, AllZip, length-set, RepliesTo, rest_next}
+use Rattle.silt_session.proofs.Lists.{changed_all, zip_next}
 use Rattle.silt_session.proofs.held.reply_to_tasks.Goals as goal
 
 pub loop-task-init : goal.loop-task-init

@@ -1,6 +1,4 @@
-use Rattle.std.proofs.Common.{◌≡◌, length, take, drop}
-use Rattle.std.specs.List.{AllZip}
-use Rattle.silt_session.specs.Batches.{RepliesTo}
+use Rattle.silt_session.proofs.Common.{◌≡◌, length, take, drop, AllZip, RepliesTo}
 use Rattle.silt_session.proofs.held.reply_to_tasks.Given as goal
 
 -- the tasks so far have their replies, and the others are as they were

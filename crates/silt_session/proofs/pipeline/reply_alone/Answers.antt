@@ -1,6 +1,6 @@
-use Rattle.std.proofs.Common.{rules}
+use Rattle.silt_session.proofs.Common.{rules}
 use Rattle.silt_session.proofs.Pipelines.{reply_passes, task_order}
-use Rattle.silt_session.proofs.Tolds.{more_both, more_passed, order_one, starts_before}
+use Rattle.silt_session.proofs.Tolds.{more_both, more_passed, starts_before}
 use Rattle.silt_session.proofs.pipeline.reply_alone.Goals as goal
 
 pub returns-clause-told : goal.returns-clause-told

@@ -1,4 +1,4 @@
-use Rattle.std.proofs.Common.{◌≡◌, ◌+◌, vec_len}
+use Rattle.silt_session.proofs.Common.{◌≡◌, ◌+◌, vec_len}
 use Rattle.silt_session.proofs.session_slots.slots_of.Given as goal
 
 -- each feeder that was taken out has a slot

@@ -1,9 +1,5 @@
-use Rattle.std.proofs.Common.{◌∙◌, List, Vec, ap, arith, drop, subst}
-use Rattle.std.specs.declared.alloc.Global.{Global}
-use Rattle.std.specs.Prelude.{IsSomeAnd, slice_get}
+use Rattle.silt_session.proofs.Common.{◌∙◌, Vec, ap, arith, drop}
 use Rattle.std.proofs.lemmas.List.{drop-drop}
-use Rattle.silt_event.specs.declared.event.Event.{Event as EventOf}
-use Rattle.silt_session.specs.SetAnswers.{EachShard}
 use Rattle.silt_session.proofs.Sets.{asked_next, each_all}
 use Rattle.silt_session.proofs.set.begin_each.Goals as goal
 
@@ -23,7 +19,4 @@ loop-shard-preserved g c =
 
 pub returns : goal.returns
 returns g c =
-    subst (λ (l : List (Vec EventOf Global)). EachShard c.args.shards.now c.loop-shard.asked.items (λ i shard one. IsSomeAnd (slice_get l i) (λ part. g.A.AskingAhead.are_asked shard part.items one)))
-    c.from-parts.ensures.0
-    (each_all c.args.shards.now c.loop-shard.asked.items (λ i shard one. IsSomeAnd (slice_get c.from-parts.result.items i) (λ part. g.A.AskingAhead.are_asked shard part.items one))
-    c.loop-shard.shard-index c.loop-shard-test.false c.loop-shard.invariant.asked)
+    rw (← c.from-parts.ensures.0) (each_all c.args.shards.now c.loop-shard.asked.items _ c.loop-shard.shard-index c.loop-shard-test.false c.loop-shard.invariant.asked)

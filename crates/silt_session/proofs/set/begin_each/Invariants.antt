@@ -1,6 +1,4 @@
-use Rattle.std.proofs.Common.{◌≡◌, ◌≤◌, length, take, drop}
-use Rattle.std.specs.Prelude.{IsSomeAnd, slice_get, vec_capacity, vec_len}
-use Rattle.silt_session.specs.SetAnswers.{EachShard}
+use Rattle.silt_session.proofs.Common.{◌≡◌, ◌≤◌, length, take, drop, IsSomeAnd, slice_get, vec_capacity, vec_len, EachShard}
 use Rattle.silt_session.proofs.set.begin_each.Given as goal
 
 -- the shards so far were asked for the replies to their events

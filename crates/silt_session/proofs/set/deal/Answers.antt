@@ -1,7 +1,4 @@
-use Rattle.std.proofs.Common.{◌∙◌, ◌++◌, ◌∷◌, [], ℕ, List, Vec, ap, append_assoc, arith, length, sym, subst}
-use Rattle.std.specs.Vec.Iter.{into_iter_items}
-use Rattle.silt_event.specs.declared.event.Event.{Event as EventOf}
-use Rattle.silt_session.specs.SetAnswers.{DealsTo}
+use Rattle.silt_session.proofs.Common.{◌∙◌, ◌++◌, ◌∷◌, [], Vec, ap, append_assoc, arith, length, sym, into_iter_items}
 use Rattle.silt_session.proofs.Sets.{deals_more, routes_more}
 use Rattle.silt_session.proofs.set.deal.Goals as goal
 
@@ -13,7 +10,7 @@ loop-event-preserved c =
     let event = c.in-Some.event in
     let old = c.loop-event.parts.items in
     let new = c.deal_one.new.parts.items in
-    let deals = subst (λ (n : ℕ). DealsTo n event old new (λ (part : Vec _ _). part.items)) before.count c.in_ok-deal_one.ensures in
+    let deals = rw before.count at c.in_ok-deal_one.ensures in
     record {
       can = tt;
       finite = tt;
@@ -21,7 +18,7 @@ loop-event-preserved c =
       count = omega (arith, before.count, deals.0, c.loop-event.parts.ok.0, c.deal_one.new.parts.ok.0);
       dealt = (
         done ++ event ∷ [],
-        append_assoc done (event ∷ []) (into_iter_items c.next.new.self) ∙ ap (λ (l : List EventOf). done ++ l) (sym items) ∙ whole,
+        append_assoc done (event ∷ []) (into_iter_items c.next.new.self) ∙ ap (λ l. done ++ l) (sym items) ∙ whole,
         routes_more c.args.count done event c.route_of-route.result c.loop-event.routes.items c.push_reserved.new.self.items routes c.route_of-route.ensures.route c.push_reserved.ensures.items,
         deals_more (λ (part : Vec _ _). part.items) c.args.count done event old new dealt deals,
       );

@@ -1,9 +1,7 @@
-use Rattle.std.proofs.Common.{◌≡◌, ◌<◌, ◌≤◌, ◌+◌, ◌++◌, ℕ, List, length, map}
-use Rattle.std.specs.Prelude.{vec_capacity, vec_len}
-use Rattle.std.specs.Vec.Iter.{into_iter_items}
+use Rattle.silt_session.proofs.Common.{◌≡◌, ◌<◌, ◌≤◌, ◌+◌, ◌++◌, ℕ, List, length, map, vec_capacity, vec_len, into_iter_items, HasPart}
+use Rattle.silt_session.specs.SetAnswers.{route_of}
 use Rattle.silt_event.specs.declared.event.Event.{Event as EventOf}
 use Rattle.silt_shards.specs.Routing.{routed}
-use Rattle.silt_session.specs.SetAnswers.{HasPart, route_of}
 use Rattle.silt_session.proofs.set.deal.Given as goal
 
 -- the events so far are dealt to their shards, and there is room for the routes of the others

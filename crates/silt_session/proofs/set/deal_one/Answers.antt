@@ -1,7 +1,5 @@
-use Rattle.std.proofs.Common.{◌<◌, ◌∙◌, Vec, refl, subst, sym, vec_len}
+use Rattle.silt_session.proofs.Common.{◌<◌, ◌∙◌, Vec, refl, sym, vec_len}
 use Rattle.std.proofs.lemmas.Option.{slice_get_read}
-use Rattle.silt_session.specs.SetAnswers.{IsShardWithin}
-use Rattle.silt_session.specs.declared.set.Route.{Route}
 use Rattle.silt_session.proofs.Sets.{all_dealt, deals_one}
 use Rattle.silt_session.proofs.set.deal_one.Goals as goal
 
@@ -9,7 +7,7 @@ pub returns-in_ok-push-in-One : goal.returns-in_ok-push-in-One
 returns-in_ok-push-in-One c =
     let old = c.args.parts.now in
     let shard = c.in-One.shard in
-    let within : shard < vec_len old = subst (λ (r : Route). IsShardWithin (vec_len old) r) c.in-One.is c.requires.within in
+    let within : shard < vec_len old = rw c.in-One.is at c.requires.within in
     deals_one (λ (part : Vec _ _). part.items) (vec_len old) c.args.event shard old.items _ c.index_mut.result.now c.push.new.self (sym c.requires.route ∙ c.in-One.is)
     (slice_get_read old.items (vec_len old) shard c.index_mut.result.now old.ok.0 within c.index_mut.ensures.value) c.in_ok-push-in-One.ensures.items refl
 

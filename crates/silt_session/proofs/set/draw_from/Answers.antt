@@ -1,5 +1,4 @@
-use Rattle.std.proofs.Common.{arith}
-use Rattle.std.specs.declared.collections.VecDeque.{VecDeque}
+use Rattle.silt_session.proofs.Common.{arith, VecDeque}
 use Rattle.silt_session.proofs.Sets.{draws_from}
 use Rattle.silt_session.proofs.set.draw_from.Goals as goal
 

@@ -1,7 +1,4 @@
-use Rattle.std.proofs.Common.{◌∙◌, arith}
-use Rattle.std.proofs.lemmas.List.{length-set}
-use Rattle.std.specs.declared.collections.VecDeque.{VecDeque}
-use Rattle.silt_session.proofs.Lists.{rest_next}
+use Rattle.silt_session.proofs.Common.{◌∙◌, arith, length-set, VecDeque, rest_next}
 use Rattle.silt_session.proofs.Sets.{heads_next}
 use Rattle.silt_session.proofs.set.draw_heads.Goals as goal
 

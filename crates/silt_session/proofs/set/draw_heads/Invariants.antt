@@ -1,5 +1,4 @@
-use Rattle.std.proofs.Common.{◌≡◌, List, length, take, drop}
-use Rattle.silt_event.specs.Events.{PlainReply}
+use Rattle.silt_session.proofs.Common.{◌≡◌, List, length, take, drop, PlainReply}
 use Rattle.silt_shards.specs.Sets.{joined}
 use Rattle.silt_session.specs.SetAnswers.{DrawsHeads}
 use Rattle.silt_session.proofs.set.draw_heads.Given as goal

@@ -1,9 +1,5 @@
-use Rattle.std.proofs.Common.{◌∙◌, ap, arith, drop, List}
-use Rattle.std.specs.List.{AllZip}
-use Rattle.std.specs.Prelude.{IsSomeAnd, slice_get}
+use Rattle.silt_session.proofs.Common.{◌∙◌, ap, arith, drop, VecDeque}
 use Rattle.std.proofs.lemmas.List.{drop-drop}
-use Rattle.std.specs.declared.collections.VecDeque.{VecDeque}
-use Rattle.silt_event.specs.declared.event.Event.{Event as EventOf}
 use Rattle.silt_session.proofs.Sets.{each_all, told_next}
 use Rattle.silt_session.proofs.set.finish_each.Goals as goal
 
@@ -24,8 +20,4 @@ loop-shard-preserved g c =
 
 pub returns-clause-told : goal.returns-clause-told
 returns-clause-told g c =
-    rw (← c.from-asked.ensures.0)
-    (each_all c.args.shards.now c.loop-shard.told.items
-    (λ i shard list. IsSomeAnd (slice_get c.from-asked.result.items i) (λ one. (events : List EventOf) → g.A.AskingAhead.are_asked shard events one
-    → AllZip (g.A.AskingAhead.gives shard) events list.items))
-    c.loop-shard.shard-index c.loop-shard-test.false c.loop-shard.invariant.told)
+    rw (← c.from-asked.ensures.0) (each_all c.args.shards.now c.loop-shard.told.items _ c.loop-shard.shard-index c.loop-shard-test.false c.loop-shard.invariant.told)

@@ -1,8 +1,5 @@
-use Rattle.std.proofs.Common.{◌≡◌, ◌≤◌, List, length, take, drop}
-use Rattle.std.specs.List.{AllZip}
-use Rattle.std.specs.Prelude.{IsSomeAnd, slice_get, vec_capacity, vec_len}
+use Rattle.silt_session.proofs.Common.{◌≡◌, ◌≤◌, List, length, take, drop, IsSomeAnd, slice_get, vec_capacity, vec_len, AllZip, EachShard}
 use Rattle.silt_event.specs.declared.event.Event.{Event as EventOf}
-use Rattle.silt_session.specs.SetAnswers.{EachShard}
 use Rattle.silt_session.proofs.set.finish_each.Given as goal
 
 -- the replies of the shards so far have come

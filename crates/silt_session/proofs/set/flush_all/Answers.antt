@@ -1,7 +1,6 @@
-use Rattle.std.proofs.Common.{◌≡◌, ◌∷◌, [], Vec, ◌++◌, ◌∙◌, arith}
-use Rattle.std.proofs.lemmas.List.{length-set}
+use Rattle.silt_session.proofs.Common.{◌≡◌, ◌∷◌, [], Vec, ◌++◌, ◌∙◌, arith, length-set, rest_next}
 use Rattle.silt_event.specs.declared.event.Event.TheVariants.{Flush}
-use Rattle.silt_session.proofs.Lists.{zip_next, rest_next}
+use Rattle.silt_session.proofs.Lists.{zip_next}
 use Rattle.silt_session.proofs.set.flush_all.Goals as goal
 
 pub loop-part-preserved : goal.loop-part-preserved

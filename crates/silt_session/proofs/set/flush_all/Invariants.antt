@@ -1,5 +1,4 @@
-use Rattle.std.proofs.Common.{◌≡◌, ◌++◌, ◌∷◌, [], length, take, drop}
-use Rattle.std.specs.List.{AllZip}
+use Rattle.silt_session.proofs.Common.{◌≡◌, ◌++◌, ◌∷◌, [], length, take, drop, AllZip}
 use Rattle.silt_event.specs.declared.event.Event.TheVariants.{Flush}
 use Rattle.silt_session.proofs.set.flush_all.Given as goal
 

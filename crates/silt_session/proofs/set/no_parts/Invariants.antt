@@ -1,5 +1,4 @@
-use Rattle.std.proofs.Common.{◌≡◌, ◌<◌, ◌≤◌, ℕ, [], vec_capacity, vec_len}
-use Rattle.silt_session.specs.SetAnswers.{HasPart}
+use Rattle.silt_session.proofs.Common.{◌≡◌, ◌<◌, ◌≤◌, ℕ, [], vec_capacity, vec_len, HasPart}
 use Rattle.silt_session.proofs.set.no_parts.Given as goal
 
 -- the lists so far are empty, and there is room for the others

@@ -1,7 +1,5 @@
-use Rattle.std.proofs.Common.{◌<◌, ◌≤◌, ◌+◌, drop, Option, Some, arith, length, subst}
-use Rattle.std.specs.Prelude.{IsSomeAnd}
+use Rattle.silt_session.proofs.Common.{◌<◌, ◌≤◌, arith, length, IsSomeAnd, Option, Some}
 use Rattle.silt_event.specs.declared.facts.Facts.{Facts}
-use Rattle.silt_shards.specs.SetFacts.{AddsFacts}
 use Rattle.silt_shards.proofs.Sums.{adds_end, adds_one}
 use Rattle.silt_session.proofs.set.sum_facts.Goals as goal
 
@@ -17,12 +15,12 @@ loop-shard-preserved g c =
     c.loop-shard.invariant facts
     (adds_one (λ shard (given : Option Facts). IsSomeAnd given (g.A.AskingAhead.informs shard)) shards i c.shard-item.result
     c.loop-shard.sum c.facts.result facts within c.shard-item.is c.facts.ensures
-    (subst (λ (s : Facts). AddsFacts (λ shard given. IsSomeAnd given (g.A.AskingAhead.informs shard)) s (drop (i + 1) shards) facts) c.plus-sum.ensures h))
+    (rw c.plus-sum.ensures at h))
 
 pub returns : goal.returns
 returns g c =
     let shards = c.args.shards.now in
     let i = c.loop-shard.shard-index in
     let past : length shards ≤ i = omega arith in
-    subst (λ (s : Facts). AddsFacts (λ shard given. IsSomeAnd given (g.A.AskingAhead.informs shard)) s shards (Some c.loop-shard.sum)) c.no_facts-sum.ensures
+    rw c.no_facts-sum.ensures at
     (c.loop-shard.invariant (Some c.loop-shard.sum) (adds_end (λ shard (given : Option Facts). IsSomeAnd given (g.A.AskingAhead.informs shard)) shards i c.loop-shard.sum past))

@@ -1,9 +1,4 @@
-use Rattle.std.proofs.Common.{◌∙◌, ◌++◌, ◌∷◌, [], List, ap, append_assoc, arith, length, sym, subst}
-use Rattle.std.specs.Vec.Iter.{into_iter_items}
-use Rattle.std.specs.declared.collections.VecDeque.{VecDeque}
-use Rattle.silt_event.specs.Events.{PlainReply}
-use Rattle.silt_session.specs.SetAnswers.{DrawsAll}
-use Rattle.silt_session.specs.declared.set.Route.{Route}
+use Rattle.silt_session.proofs.Common.{◌∙◌, ◌++◌, ◌∷◌, [], ap, append_assoc, arith, length, sym, into_iter_items, VecDeque}
 use Rattle.silt_session.proofs.Sets.{draws_more}
 use Rattle.silt_session.proofs.set.weave.Goals as goal
 
@@ -20,8 +15,8 @@ loop-route-preserved c =
       room = omega (arith, before.room, ap length items, c.push_reserved.ensures.len, c.push_reserved.ensures.capacity);
       drawn = (
         done ++ route ∷ [],
-        append_assoc done (route ∷ []) (into_iter_items c.next.new.self) ∙ ap (λ (l : List Route). done ++ l) (sym items) ∙ whole,
-        subst (λ (l : List PlainReply). DrawsAll told (done ++ route ∷ []) l c.draw.new.told.items (λ (list : VecDeque _ _). list.items)) (sym c.push_reserved.ensures.items)
+        append_assoc done (route ∷ []) (into_iter_items c.next.new.self) ∙ ap (λ l. done ++ l) (sym items) ∙ whole,
+        rw c.push_reserved.ensures.items
             (draws_more told c.loop-route.told.items c.draw.new.told.items done c.loop-route.replies.items route _ (λ (list : VecDeque _ _). list.items) drawn c.in_ok-draw.ensures),
       );
     }

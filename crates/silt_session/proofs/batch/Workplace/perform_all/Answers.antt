@@ -1,4 +1,4 @@
-use Rattle.std.proofs.Common.{refl, ◌∙◌, arith, []}
+use Rattle.silt_session.proofs.Common.{refl, ◌∙◌, arith, []}
 use Rattle.silt_session.proofs.Batches.{jobs_more}
 use Rattle.silt_session.proofs.batch.Workplace.perform_all.Goals as goal
 

@@ -1,7 +1,5 @@
-use Rattle.std.proofs.Common.{◌≡◌, ◌≤◌, ◌++◌, List, vec_len}
-use Rattle.std.specs.Prelude.{vec_capacity}
-use Rattle.silt_session.specs.Batches.{IsBatch, PerformsAll, left_in, writer_at}
-use Rattle.silt_session.specs.declared.job.Job.{Job}
+use Rattle.silt_session.proofs.Common.{◌≡◌, ◌≤◌, ◌++◌, List, vec_len, vec_capacity, IsBatch, writer_at, Job}
+use Rattle.silt_session.specs.Batches.{PerformsAll, left_in}
 use Rattle.silt_session.proofs.batch.Workplace.perform_all.Given as goal
 
 -- the jobs so far are done in order, and the others are left to do

@@ -1,5 +1,4 @@
-use Rattle.std.proofs.Common.{ap, sym, ◌∙◌}
-use Rattle.std.specs.Prelude.{Some}
+use Rattle.silt_session.proofs.Common.{ap, sym, ◌∙◌, Some}
 use Rattle.silt_session.proofs.Batches.{performed_same}
 use Rattle.silt_session.proofs.batch.Workplace.perform_job.Goals as goal
 

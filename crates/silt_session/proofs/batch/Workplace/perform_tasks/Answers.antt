@@ -1,10 +1,8 @@
+use Rattle.silt_session.proofs.Common.{rules, ap, get_or, refl, sym, ◌∙◌, Some, length-set, PerformsTask, StepsThrough, writer_at, rest_next}
+use Rattle.silt_session.specs.Batches.{serving}
 use mir.Syntax.{of_param}
-use Rattle.std.proofs.Common.{rules, ℕ, Some, ap, get_or, refl, sym, ◌∙◌}
-use Rattle.std.proofs.lemmas.List.{length-set}
-use Rattle.silt_desk.specs.Seats.{SeatState}
-use Rattle.silt_session.specs.Batches.{PerformsTask, StepsThrough, serving, writer_at}
 use Rattle.silt_session.proofs.Batches.{keeps_none, keeps_both, task_done, task_performed, task_placed}
-use Rattle.silt_session.proofs.Lists.{changed_all, steps_next, rest_next}
+use Rattle.silt_session.proofs.Lists.{changed_all, steps_next}
 use Rattle.silt_session.proofs.batch.Workplace.perform_tasks.Goals as goal
 
 pub loop-task-init : goal.loop-task-init
@@ -19,7 +17,7 @@ loop-task-preserved g c =
           c.loop-task-test.true before.same_length before.rest before.done
           (task_performed g.D.Disk g.T.Trace _ _ (writer_at c.loop-task.seat c.loop-task.batch) _ _ _
           (get_or c.loop-task.task-items c.loop-task.task-index c.task-item.result) c.finish.new.self c.perform_request-answer.result
-          (ap (λ (s : SeatState). writer_at s c.loop-task.batch) c.serve.ensures ∙ ap (λ (n : ℕ). serving n (writer_at c.loop-task.seat c.loop-task.batch)) c.session.ensures)
+          (ap (λ s. writer_at s c.loop-task.batch) c.serve.ensures ∙ ap (λ n. serving n (writer_at c.loop-task.seat c.loop-task.batch)) c.session.ensures)
           c.request.ensures c.finish.ensures c.perform_request-answer.ensures.does);
       rest = rest_next c.deref_mut-task-items.result.now c.loop-task.task-items c.loop-task.task-index _ before.rest;
       same_length = length-set c.loop-task.task-items c.loop-task.task-index _ ∙ before.same_length;
@@ -31,7 +29,7 @@ finish-requires g c =
     let does = c.perform_request-answer.ensures.does in
     let done = task_done g.D.Disk g.T.Trace _ _ _ _ _ _ c.perform_request-answer.result c.request.ensures does in
     let placed = task_placed g.D.Disk g.T.Trace _ _ _ _ _ _ _ c.perform_request-answer.result c.call_place-call.result
-    (ap (λ (s : SeatState). s.caller.session) c.serve.ensures ∙ ap Some c.session.ensures) c.request.ensures c.call_place-call.ensures does in (
+    (ap (λ s. s.caller.session) c.serve.ensures ∙ ap Some c.session.ensures) c.request.ensures c.call_place-call.ensures does in (
       search rules,
       (record { owned = c.type_bounds.send-D-Fault.owned; leaving = λ k. c.type_bounds.send-D-Fault.leaving (λ s. k (of_param 2)) }, (search rules, (done, placed))),
     )

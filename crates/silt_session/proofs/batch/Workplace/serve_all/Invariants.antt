@@ -1,6 +1,5 @@
-use Rattle.std.proofs.Common.{◌≡◌, List}
+use Rattle.silt_session.proofs.Common.{◌≡◌, List, Job}
 use Rattle.silt_session.specs.Batches.{ServesBatches}
-use Rattle.silt_session.specs.declared.job.Job.{Job}
 use Rattle.silt_session.proofs.batch.Workplace.serve_all.Given as goal
 
 -- the seat keeps its number, and all jobs that were taken were done in batches

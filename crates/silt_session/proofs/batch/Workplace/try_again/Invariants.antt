@@ -1,4 +1,4 @@
-use Rattle.std.proofs.Common.{◌≤◌}
+use Rattle.silt_session.proofs.Common.{◌≤◌}
 use Rattle.silt_session.specs.Batches.{FindsNoRoomTimes}
 use Rattle.silt_session.proofs.batch.Workplace.try_again.Given as goal
 

@@ -1,4 +1,4 @@
-use Rattle.std.proofs.Common.{refl}
+use Rattle.silt_session.proofs.Common.{refl}
 use Rattle.silt_session.proofs.Clients.{given_one}
 use Rattle.silt_session.proofs.client.AskByAsking.ask.Goals as goal
 

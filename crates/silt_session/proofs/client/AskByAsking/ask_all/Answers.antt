@@ -1,4 +1,4 @@
-use Rattle.std.proofs.Common.{inr, refl, sym, ◌∙◌}
+use Rattle.silt_session.proofs.Common.{inr, refl, sym, ◌∙◌}
 use Rattle.silt_session.proofs.Clients.{given_all}
 use Rattle.silt_session.proofs.client.AskByAsking.ask_all.Goals as goal
 

@@ -1,8 +1,4 @@
-use Rattle.std.proofs.Common.{◌≢◌, ℕ, [], ap, arith, length, replicate, subst, sym, ◌∙◌}
-use Rattle.std.proofs.lemmas.Slice.Zip.{AllZip-long}
-use Rattle.silt_event.specs.Events.{AnswersEach}
-use Rattle.silt_session.specs.Sessions.{AnswersClient}
-use Rattle.silt_session.specs.Unanswered.{reply_without}
+use Rattle.silt_session.proofs.Common.{◌≢◌, [], ap, arith, length, ◌∙◌, replicate, AllZip-long, reply_without}
 use Rattle.silt_session.specs.declared.unanswered.Unanswered.TheVariants.{Lost}
 use Rattle.silt_session.proofs.Clients.{given_each, lost_each, without_each}
 use Rattle.silt_session.proofs.client.Client.ask_all.Goals as goal
@@ -40,6 +36,6 @@ returns-in-Err-clause-answers g c =
     let some : events.items ≢ [] = λ is. c.if-count-eq0.false (count ∙ ap length is) in (
       replicate c.len-count.result (reply_without lack),
       c.reply_to-in-Err.ensures.items,
-      subst (λ (n : ℕ). AnswersEach (AnswersClient g.A.Asking.gives) c.args.self.now events.items (replicate n (reply_without lack)) c.note.new.self) (sym count)
+      rw count
           (without_each g.A.Asking.gives c.args.self.now _ c.note.new.self events.items lack some c.note.ensures.without),
     )

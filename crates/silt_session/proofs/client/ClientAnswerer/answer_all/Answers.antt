@@ -1,11 +1,7 @@
-use Rattle.std.proofs.Common.{rules, ◌++◌, ◌∷◌, [], List, All, refl, sym, ◌∙◌, ap, subst, append_assoc}
-use Rattle.std.proofs.lemmas.List.{append-nil}
+use Rattle.silt_session.proofs.Common.{rules, ◌++◌, ◌∷◌, [], refl, sym, ◌∙◌, ap, append_assoc, append-nil, into_iter_items, AnswersClient}
 use Rattle.std.proofs.lemmas.List.Elements.{All-rest}
-use Rattle.std.specs.Vec.Iter.{into_iter_items}
-use Rattle.silt_event.specs.declared.event.Event.{Event as EventOf}
 use Rattle.silt_event.specs.Events.{HasValueOf}
 use Rattle.silt_event.proofs.Answering.{each_more}
-use Rattle.silt_session.specs.Sessions.{AnswersClient}
 use Rattle.silt_session.proofs.client.ClientAnswerer.answer_all.Goals as goal
 
 pub loop-event-init : goal.loop-event-init
@@ -15,7 +11,7 @@ loop-event-init g c =
       can = tt;
       finite = tt;
       stays = refl;
-      values = subst (λ (l : List EventOf). All (HasValueOf c.args.self.now.value_len) l) (sym given.0) c.requires.values;
+      values = rw given.0 c.requires.values;
       room = search rules;
       so_far = ([], [], refl, sym (append-nil _), refl);
     }
@@ -34,7 +30,7 @@ loop-event-preserved g c =
       so_far = (
         _,
         _,
-        append_assoc done (c.in-Some.event ∷ []) (into_iter_items c.next.new.self) ∙ ap (λ (l : List EventOf). done ++ l) (sym items) ∙ all,
+        append_assoc done (c.in-Some.event ∷ []) (into_iter_items c.next.new.self) ∙ ap (λ l. done ++ l) (sym items) ∙ all,
         c.push_reserved.ensures.items ∙ ap (λ l. l ++ c.answer.result ∷ []) was ∙ append_assoc _ given (c.answer.result ∷ []),
         each_more (AnswersClient g.A.Asking.gives) _ _ _ done given c.in-Some.event c.answer.result each c.answer.ensures.answers,
       );

@@ -1,8 +1,6 @@
-use Rattle.std.proofs.Common.{◌≡◌, ◌≤◌, ◌+◌, ◌++◌, All, List, length, vec_capacity, vec_len}
-use Rattle.std.specs.Vec.Iter.{into_iter_items}
+use Rattle.silt_session.proofs.Common.{◌≡◌, ◌≤◌, ◌+◌, ◌++◌, List, length, All, vec_capacity, vec_len, into_iter_items, PlainReply, AnswersClient}
+use Rattle.silt_event.specs.Events.{AnswersEach, HasValueOf}
 use Rattle.silt_event.specs.declared.event.Event.{Event as EventOf}
-use Rattle.silt_event.specs.Events.{AnswersEach, HasValueOf, PlainReply}
-use Rattle.silt_session.specs.Sessions.{AnswersClient}
 use Rattle.silt_session.proofs.client.ClientAnswerer.answer_all.Given as goal
 
 -- the events so far have their replies, and there is room for the others

@@ -1,7 +1,4 @@
-use Rattle.std.proofs.Common.{[], ◌∷◌, ◌++◌, List, append_assoc, refl, sym, ◌∙◌, ap, subst, arith}
-use Rattle.std.proofs.lemmas.List.{append-nil}
-use Rattle.silt_session.specs.Batches.{RepliesToAll}
-use Rattle.silt_session.specs.declared.job.Job.{Job}
+use Rattle.silt_session.proofs.Common.{[], ◌∷◌, ◌++◌, append_assoc, refl, sym, ◌∙◌, ap, arith, append-nil, Job}
 use Rattle.silt_session.proofs.Batches.{taken_behind}
 use Rattle.silt_session.proofs.held.Batch.send_done.Goals as goal
 
@@ -22,7 +19,7 @@ loop-self-preserved g c =
       so_far = (
         c.in-Some.done ∷ sent,
         done ∷ replied,
-        sym (append_assoc c.pop.new.self.items (c.in-Some.done ∷ []) sent) ∙ ap (λ (l : List (Job g.row.D.Denot g.row.T.Denot g.row.N.Denot g.row.D-Fault.Denot)). l ++ sent) (sym popped.items) ∙ is,
+        sym (append_assoc c.pop.new.self.items (c.in-Some.done ∷ []) sent) ∙ ap (λ l. l ++ sent) (sym popped.items) ∙ is,
         ((c.reply_to_job.ensures.replies, c.reply_to_job.ensures.ticket, refl), all),
       );
     }
@@ -33,4 +30,4 @@ returns-clause-replies g c =
     let (sent, replied, is, all) = before.so_far in
     let last = taken_behind c.args.self.now.left c.loop-self.self.jobs.items sent c.args.self.now.jobs.items is
     (omega (arith, c.loop-self-test.false, c.len.ensures, before.within, before.count, c.loop-self.self.jobs.ok.0)) in
-    (replied, subst (λ (l : List (Job g.row.D.Denot g.row.T.Denot g.row.N.Denot g.row.D-Fault.Denot)). RepliesToAll c.args.flushed.now l replied) (sym last) all)
+    (replied, rw last all)

@@ -1,7 +1,4 @@
-use Rattle.std.proofs.Common.{◌≡◌, ◌≤◌, ◌++◌, List, vec_len}
-use Rattle.std.specs.Prelude.{vec_capacity}
-use Rattle.silt_session.specs.Batches.{IsBatch, RepliesToAll}
-use Rattle.silt_session.specs.declared.job.Job.{Job}
+use Rattle.silt_session.proofs.Common.{◌≡◌, ◌≤◌, ◌++◌, List, vec_len, vec_capacity, IsBatch, RepliesToAll, Job}
 use Rattle.silt_session.proofs.held.Batch.send_done.Given as goal
 
 -- the jobs that were taken from the end have their replies

@@ -1,5 +1,4 @@
-use Rattle.silt_session.specs.Requests.{requests_of}
-use Rattle.std.proofs.Common.{sym, ◌∙◌, ap}
+use Rattle.silt_session.proofs.Common.{sym, ◌∙◌, ap, requests_of}
 use Rattle.silt_desk.proofs.CallLogs.{adds_moves}
 use Rattle.silt_session.proofs.job_log.LogView.append.Goals as goal
 

@@ -1,4 +1,4 @@
-use Rattle.std.proofs.Common.{arith}
+use Rattle.silt_session.proofs.Common.{arith}
 use Rattle.silt_session.proofs.Marks.{marked_too}
 use Rattle.silt_session.proofs.key_marks.KeyMarks.mark.Goals as goal
 

@@ -1,5 +1,4 @@
-use Rattle.std.proofs.Common.{Vec, ◌∙◌, ap, sym}
-use Rattle.silt_session.specs.Requests.{requests_of}
+use Rattle.silt_session.proofs.Common.{Vec, ◌∙◌, ap, sym, requests_of}
 use Rattle.silt_session.proofs.JobLogs.{awaited_come}
 use Rattle.silt_session.proofs.pipeline.Handed.wait.Goals as goal
 

@@ -1,11 +1,7 @@
-use Rattle.std.proofs.Common.{rules, ◌++◌, ◌∷◌, [], List, append_assoc, refl, subst, sym, ◌∙◌, ap}
-use Rattle.std.proofs.lemmas.List.{append-nil}
-use Rattle.silt_session.specs.declared.pipeline.Pipeline.{Pipeline}
-use Rattle.silt_session.specs.declared.place.Place.{Place}
-use Rattle.silt_session.specs.Pipelines.{FillsOne}
-use Rattle.silt_session.specs.Tolds.{ToldState}
+use Rattle.silt_session.proofs.Common.{rules, ◌++◌, ◌∷◌, [], append_assoc, refl, sym, ◌∙◌, ap, append-nil}
 use Rattle.silt_session.proofs.Pipelines.{fills_more}
 use Rattle.silt_session.proofs.Tolds.{passes_both, passes_none}
+use Rattle.silt_session.specs.declared.pipeline.Pipeline.{Pipeline}
 use Rattle.silt_session.proofs.pipeline.Pipeline.fill_places.Goals as goal
 
 pub loop-place-init : goal.loop-place-init
@@ -26,12 +22,11 @@ loop-place-preserved g c =
       so_far = (
         done ++ place ∷ [],
         given ++ reply ∷ [],
-        append_assoc done (place ∷ []) c.pop_front.new.self.items ∙ ap (λ (l : List Place). done ++ l) (sym c.in-Some.ensures.items) ∙ whole,
+        append_assoc done (place ∷ []) c.pop_front.new.self.items ∙ ap (λ l. done ++ l) (sym c.in-Some.ensures.items) ∙ whole,
         c.push_reserved.ensures.items ∙ ap (λ l. l ++ reply ∷ []) was ∙ append_assoc _ given (reply ∷ []),
         fills_more g.D.Disk g.T.Trace c.args.self.now.told c.args.flushed.now c.args.self.now.told.next c.loop-place.self.told.next
             c.given.new.told.next c.args.tasks.items c.loop-place.tasks.items c.given.new.tasks.items done given place
             reply fills
-            (subst (λ (s : ToldState). FillsOne g.D.Disk g.T.Trace s c.args.flushed.now c.loop-place.self.told.next c.loop-place.tasks.items
-            place reply c.given.new.told.next c.given.new.tasks.items) before.told.same c.in-Some-given.ensures.fills),
+            (rw before.told.same at c.in-Some-given.ensures.fills),
       );
     }

@@ -1,8 +1,5 @@
-use Rattle.std.proofs.Common.{◌≡◌, ◌≤◌, ◌+◌, ◌++◌, List, vec_capacity, vec_len}
-use Rattle.std.specs.VecDeque.{deque_capacity, deque_len}
-use Rattle.silt_event.specs.Events.{PlainReply}
+use Rattle.silt_session.proofs.Common.{◌≡◌, ◌≤◌, ◌+◌, ◌++◌, List, vec_capacity, vec_len, deque_capacity, deque_len, PlainReply, PassesOn}
 use Rattle.silt_session.specs.Pipelines.{Fills}
-use Rattle.silt_session.specs.Tolds.{PassesOn}
 use Rattle.silt_session.specs.declared.place.Place.{Place}
 use Rattle.silt_session.proofs.pipeline.Pipeline.fill_places.Given as goal
 

@@ -1,5 +1,4 @@
-use Rattle.std.proofs.Common.{◌≡◌}
-use Rattle.silt_session.specs.Tolds.{IsToldMore}
+use Rattle.silt_session.proofs.Common.{◌≡◌, IsToldMore}
 use Rattle.silt_session.proofs.pipeline.Pipeline.learn.Given as goal
 
 -- more is told, and nothing else changes

@@ -1,8 +1,4 @@
-use Rattle.std.proofs.Common.{subst}
-use Rattle.std.specs.Prelude.{IfOk}
-use Rattle.silt_event.specs.declared.event.Event.{Event as EventOf}
-use Rattle.silt_session.specs.Sessions.{IsAnswer}
-use Rattle.silt_session.proofs.Pipelines.{asked_order, given_answers, requested_answers, shown_order}
+use Rattle.silt_session.proofs.Pipelines.{given_answers, requested_answers, shown_order}
 use Rattle.silt_session.proofs.Tolds.{asked_more, starts_before}
 use Rattle.silt_session.proofs.session.Session.answer.Goals as goal
 
@@ -14,14 +10,14 @@ returns-in-Ok-clause-reply g c = requested_answers g.D.Disk g.T.Trace c.request.
     c.args.event c.request.result c.in-Ok.ensures c.request.ensures.reply
 
 pub returns-in-Ok-clause-order : goal.returns-in-Ok-clause-order
-returns-in-Ok-clause-order g c = asked_order c.request.new.told c.in-Ok.request c.args.event c.request.result c.in-Ok.ensures c.request.ensures.order
+returns-in-Ok-clause-order g c = rw c.in-Ok.ensures at c.request.ensures.order
 
 pub returns-in-Err-clause-told : goal.returns-in-Err-clause-told
 returns-in-Err-clause-told g c = asked_more c.args.told.now c.asked.result c.give.new.told c.asked.ensures c.give.ensures.told
 
 pub returns-in-Err-clause-reply : goal.returns-in-Err-clause-reply
 returns-in-Err-clause-reply g c =
-    subst (λ (e : EventOf). IfOk c.give.result (IsAnswer g.D.Disk g.T.Trace c.give.new.told c.args.self.now.settles_gets e)) c.in-Err.ensures.0
+    rw c.in-Err.ensures.0 at
     (given_answers g.D.Disk g.T.Trace c.give.new.told c.args.self.now.settles_gets c.in-Err.event c.answer_here.result c.give.result c.answer_here.ensures c.give.ensures.reply)
 
 pub returns-in-Err-clause-order : goal.returns-in-Err-clause-order

@@ -1,6 +1,3 @@
-use Rattle.std.proofs.Common.{◌++◌, ◌∷◌, [], List, OnOk, subst}
-use Rattle.silt_event.specs.declared.event.Event.{Event as EventOf}
-use Rattle.silt_session.specs.Pipelines.{AnswersSoFar}
 use Rattle.silt_session.proofs.Pipelines.{gathers_one, room_placed}
 use Rattle.silt_session.proofs.session.Session.take.Goals as goal
 
@@ -17,7 +14,4 @@ returns-in-Ok-clause-room g c =
 
 pub returns-in-Err-clause-answers : goal.returns-in-Err-clause-answers
 returns-in-Err-clause-answers g c =
-    subst
-    (λ (e : EventOf). OnOk c.take_here.result ((events : List EventOf) → AnswersSoFar g.D.Disk c.args.self.now.settles_gets g.T.Trace events c.args.pipeline.now
-    → AnswersSoFar g.D.Disk c.args.self.now.settles_gets g.T.Trace (events ++ e ∷ []) c.take_here.new.pipeline))
-    c.in-Err.ensures.0 c.take_here.ensures.answers
+    rw c.in-Err.ensures.0 at c.take_here.ensures.answers

@@ -1,8 +1,5 @@
-use Rattle.std.proofs.Common.{◌++◌, ◌∷◌, [], List, append_assoc, length, refl, sym, ◌∙◌, ap, arith, subst}
-use Rattle.std.proofs.lemmas.List.{append-nil, nil_from_length}
-use Rattle.std.specs.Vec.Iter.{into_iter_items}
-use Rattle.silt_event.specs.declared.event.Event.{Event as EventOf}
-use Rattle.silt_session.specs.Pipelines.{AnswersSoFar}
+use Rattle.silt_session.proofs.Common.{◌++◌, ◌∷◌, [], append_assoc, length, refl, sym, ◌∙◌, ap, arith, append-nil, into_iter_items}
+use Rattle.std.proofs.lemmas.List.{nil_from_length}
 use Rattle.silt_session.proofs.Pipelines.{answers_none}
 use Rattle.silt_session.proofs.Tolds.{more_both, more_none}
 use Rattle.silt_session.proofs.session.Session.take_all.Goals as goal
@@ -29,7 +26,7 @@ loop-event-preserved g c =
       room = c.in_ok-take.ensures.room (length (into_iter_items c.next.new.self)) (omega (arith, before.room.0, ap length items), omega (arith, before.room.1, ap length items));
       so_far = (
         done ++ c.in-Some.event ∷ [],
-        append_assoc done (c.in-Some.event ∷ []) (into_iter_items c.next.new.self) ∙ ap (λ (l : List EventOf). done ++ l) (sym items) ∙ whole,
+        append_assoc done (c.in-Some.event ∷ []) (into_iter_items c.next.new.self) ∙ ap (λ l. done ++ l) (sym items) ∙ whole,
         c.in_ok-take.ensures.answers done some,
       );
       told = more_both _ _ _ before.told c.in_ok-take.ensures.told;
@@ -41,8 +38,7 @@ returns-clause-answers g c =
     let given = c.into_iter-event-iterator.ensures.into_iter_gives in
     let left = c.loop-event.event-iterator in
     let ended = nil_from_length (into_iter_items left) (omega (arith, c.in-None.ensures.steps.0, left.rest.ok.0)) in
-    subst (λ (l : List EventOf). AnswersSoFar g.D.Disk c.args.self.now.settles_gets g.T.Trace l c.loop-event.pipeline)
-    (sym (append-nil done) ∙ ap (λ (l : List EventOf). done ++ l) (sym ended) ∙ whole ∙ given.0) some
+    let all = rw (ended, append-nil done, given.0) at whole in rw all at some
 
 pub returns-clause-told : goal.returns-clause-told
 returns-clause-told g c = c.loop-event.invariant.told

@@ -1,5 +1,4 @@
-use Rattle.std.proofs.Common.{◌∙◌, ap, inr, length, sym}
-use Rattle.std.specs.Prelude.{slice_get}
+use Rattle.silt_session.proofs.Common.{◌∙◌, ap, inr, length, sym, slice_get}
 use Rattle.silt_session.proofs.Clients.{zip_places}
 use Rattle.silt_session.proofs.set.AskAheadByAskingAhead.finish.Goals as goal
 

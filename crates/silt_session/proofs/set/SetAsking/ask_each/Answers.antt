@@ -1,5 +1,4 @@
-use Rattle.std.proofs.Common.{Vec, arith}
-use Rattle.std.specs.declared.collections.VecDeque.{VecDeque}
+use Rattle.silt_session.proofs.Common.{Vec, arith, VecDeque}
 use Rattle.silt_session.proofs.Sets.{set_answers}
 use Rattle.silt_session.proofs.set.SetAsking.ask_each.Goals as goal
 

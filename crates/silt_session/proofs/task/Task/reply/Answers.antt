@@ -1,5 +1,5 @@
-use Rattle.std.proofs.Common.{Option, ap, subst, sym, ◌∙◌}
-use Rattle.silt_desk.specs.CallLogs.{PlaceState}
+use Rattle.silt_session.proofs.Common.{ap, sym, ◌∙◌, Option, PlaceState}
+use Rattle.std.proofs.Common.{subst}
 use Rattle.silt_session.proofs.Tolds.{IsReplied, placed_at, replies_so}
 use Rattle.silt_session.proofs.task.Task.reply.Goals as goal
 use Rattle.silt_session.proofs.task.Task.reply.Goals.{in-Some, in-None}

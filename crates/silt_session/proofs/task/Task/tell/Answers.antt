@@ -1,10 +1,6 @@
-use Rattle.std.proofs.Common.{Option, ap, subst}
+use Rattle.silt_session.proofs.Common.{ap, TaskState, asked_event, IsToldBetween, PlainReply}
 use Rattle.std.specs.Option.{option_map}
-use Rattle.silt_session.specs.Origins.{HasOrigin}
-use Rattle.silt_session.specs.Requests.{TaskState, asked_event}
 use Rattle.silt_session.specs.Sessions.{IsReplyOf}
-use Rattle.silt_session.specs.Tolds.{IsToldBetween}
-use Rattle.silt_event.specs.Events.{PlainReply}
 use Rattle.silt_session.specs.declared.task.Placed.{Placed}
 use Rattle.silt_session.proofs.Tolds.{shows_then}
 use Rattle.silt_session.proofs.task.Task.tell.Goals as goal
@@ -20,7 +16,7 @@ returns-clause-reply g c =
     (λ stands. (
       ap (option_map (λ (p : Placed). p.reply)) c.in_ok-reply.was,
       (
-        subst (λ (o : Option Placed). HasOrigin g.D.Disk g.T.Trace c.self.inside.request (option_map (λ (p : Placed). p.reply) o)) c.in_ok-reply.was c.self.invariant.1,
+        rw c.in_ok-reply.was at c.self.invariant.1,
         c.stands.ensures.told stands,
       ),
     )))

@@ -1,4 +1,4 @@
-use Rattle.std.proofs.Common.{arith, refl}
+use Rattle.silt_session.proofs.Common.{arith, refl}
 use Rattle.silt_session.proofs.Tolds.{view_named, view_told}
 use Rattle.silt_session.proofs.told.Told.of.Goals as goal
 

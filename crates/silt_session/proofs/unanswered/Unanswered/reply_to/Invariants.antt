@@ -1,5 +1,4 @@
-use Rattle.std.proofs.Common.{◌≡◌, ◌+◌, ◌++◌, replicate, vec_capacity, vec_len}
-use Rattle.silt_session.specs.Unanswered.{reply_without}
+use Rattle.silt_session.proofs.Common.{◌≡◌, ◌+◌, ◌++◌, replicate, vec_capacity, vec_len, reply_without}
 use Rattle.silt_session.proofs.unanswered.Unanswered.reply_to.Given as goal
 
 -- so many replies are appended
