@@ -273,6 +273,15 @@ impl MarkedTrieBuilder {
     }
 }
 
+/// Room for all marks of so many levels: one of each prefix, and the one behind all keys. So they do not move while a merge ends.
+fn reserve_marks(marks: &mut Vec<Mark>, levels: usize) -> Result<(), AllocError>
+    requires { levels ≤ 24 }
+    ensures { marks.new.items ≡ marks.old.items }
+{
+    let all = (1 << levels) + 1;
+    marks.reserve_exact(all - marks.len().min(all))
+}
+
 /// Appends code and marks of these groups. The first one has these keys, and the others are empty;
 /// `count` keys are all so far. After an error nothing has changed.
 fn code_groups(
@@ -292,6 +301,7 @@ fn code_groups(
         → HasGroups groups.end all (record { code = bits.new; marks = marks.new.items; group = []; count = count; last = last; levels = levels })) }
     ensures err { OnErr result ((bits.new ≡ bits.old) × (marks.new.items ≡ marks.old.items)) }
 {
+    reserve_marks(marks, levels)?;
     let (len, marked) = (bits.len(), marks.len());
     match write_groups(bits, marks, keys, count, levels, groups) {
         Ok(()) => Ok(()),
