@@ -7,7 +7,7 @@ use crate::listener::wake;
 use crate::merge_holds::{Hold, MergeHolds};
 use crate::merge_places::MergePlaces;
 use crate::standard_streams::StandardStreams;
-use silt_desk::{Gate, Spot};
+use silt_desk::{Gate, STEPS_A_GUARD, Spot};
 use silt_disk::{Disk, Geometry};
 use silt_event::Place;
 use silt_jobs::{Tells, Urgent, merge_damage_at, shard_path};
@@ -140,7 +140,12 @@ impl<'a, 'f, 'b, 'p, H: AllocGlobal + Wait + StandardStreams> MergeGate<'a, 'f, 
             least: least_merged(parts.merge_at, geometry.hashes()),
             has_place: AtomicBool::new(false),
             has_merged: AtomicBool::new(false),
-            early: early_sync_of(rt, file, shard, geometry.entry_len()),
+            early: early_sync_of(
+                rt,
+                file,
+                shard,
+                geometry.entry_len() * STEPS_A_GUARD as usize,
+            ),
             is_noted: OnceLock::new(),
         }
     }

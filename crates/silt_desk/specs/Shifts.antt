@@ -17,5 +17,5 @@ MayWork worker shift = (shift.worker ≡ None) ⊎ (shift.worker ≡ Some worker
 -- the other worker has the next shift if it waits for it, and else nobody has it
 pub record EndsShift (worker : Spot) (old new : Shift) : Type 0 where
   pub next : new.worker ≡ cond old.is_awaited (other_worker worker) None
-  pub steps : new.steps ≡ 0
+  pub passes : new.passes ≡ 0
   pub awaited : new.is_awaited ≡ false

@@ -12,7 +12,7 @@
 //! desk's own calls. Once all seats are given back, [`settle`] returns how many calls are recorded and how many
 //! commands are accepted. Both agree with what the callers got.
 //!
-//! [`converter`] and [`merger`] are loops for threads of their own that do the store's steps in the background, one under each guard.
+//! [`converter`] and [`merger`] are loops for threads of their own that do the store's steps in the background, some under each guard.
 //! Nothing is promised about waiting: not that a call gets its turn, nor in which order, nor that a message arrives.
 #![tactic(auto)]
 
@@ -53,6 +53,6 @@ pub use trace::{NotPrepared, Room, Trace};
 pub use view::DeskView;
 pub use wakes::{Wakes, wake};
 pub use worker::{
-    Due, Gate, Hears, OpenGate, Spot, Turn, Wake, WorkerEnds, convert_once, converter, merge_once,
-    merger,
+    Due, Gate, Hears, OpenGate, STEPS_A_GUARD, Spot, Turn, Wake, WorkerEnds, convert_once,
+    converter, merge_once, merger,
 };

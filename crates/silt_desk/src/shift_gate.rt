@@ -2,17 +2,17 @@
 ghost use Rattle.std.specs.Prelude.{◌≡◌, ◌≤◌, ◌↔◌, Some, false, true, IsTrue};
 ghost use Rattle.silt_desk.specs.Shifts.{EndsShift, MayWork, other_worker};
 
-use crate::worker::{Gate, Spot};
+use crate::worker::{Gate, STEPS_A_GUARD, Spot};
 use std::sync::{Condvar, Mutex, Wait};
 
-/// How many steps a worker does before the other one has its shift, if it waits for it.
-const STEPS_A_SHIFT: u32 = 256;
+/// How often a worker passes before the other one has its shift, if it waits for it: for 256 steps at most.
+const PASSES_A_SHIFT: u32 = 256 / STEPS_A_GUARD;
 
-// Whose shift it is, how many steps it has had, and whether the other worker waits for the next one.
+// Whose shift it is, how often it has passed, and whether the other worker waits for the next one.
 #[derive(Clone, Copy, Debug, PartialEq, Eq)]
 struct Shift {
     worker: Option<Spot>,
-    steps: u32,
+    passes: u32,
     is_awaited: bool,
 }
 
@@ -27,15 +27,15 @@ impl Shift {
             return false;
         }
         self.worker = Some(worker);
-        self.steps = self.steps.saturating_add(1);
+        self.passes = self.passes.saturating_add(1);
         true
     }
 
     // Whether this worker has had its shift, and the other one waits.
     fn is_over(&self, worker: Spot) -> bool
-        ensures { IsTrue result ↔ ((self.now.worker ≡ Some worker) × (self.now.is_awaited ≡ true) × (256 ≤ self.now.steps)) }
+        ensures { IsTrue result ↔ ((self.now.worker ≡ Some worker) × (self.now.is_awaited ≡ true) × (4 ≤ self.now.passes)) }
     {
-        self.worker == Some(worker) && self.is_awaited && self.steps >= STEPS_A_SHIFT
+        self.worker == Some(worker) && self.is_awaited && self.passes >= PASSES_A_SHIFT
     }
 
     // Ends the shift of this worker, if it has it. The other one has the next, if it waits.
@@ -49,7 +49,7 @@ impl Shift {
             } else {
                 None
             };
-            self.steps = 0;
+            self.passes = 0;
             self.is_awaited = false;
         }
     }
@@ -82,7 +82,7 @@ impl<'a, R: Wait> ShiftGate<'a, R> {
             rt,
             shift: Mutex::new(Shift {
                 worker: None,
-                steps: 0,
+                passes: 0,
                 is_awaited: false,
             }),
             changed: Condvar::new(),

@@ -1,4 +1,4 @@
-// Workers that do a store's steps in the background, one under each guard.
+// Workers that do a store's steps in the background, some under each guard.
 ghost use Rattle.std.specs.Prelude.{◌≡◌, false, true, IfSome, Result, Some};
 ghost use Rattle.silt_event.specs.declared.progress.Progress.{Progress as ProgressOf};
 ghost use Rattle.silt_store_set.specs.CoreState.{may_merge, wants_convert};
@@ -22,6 +22,9 @@ use silt_store_set::LentBytes;
 use std::alloc::Global;
 use std::sync::Wait;
 use std::time::{Clock, Duration};
+
+/// How many steps a worker does at most under one guard. With few, workers and writer wait for the lock more than they work.
+pub const STEPS_A_GUARD: u32 = 64;
 
 /// How many seconds a worker waits before it tries a refused step again.
 const PAUSE: u64 = 1;
@@ -52,9 +55,9 @@ pub enum Spot {
     Writer,
 }
 
-/// What a worker passes before each step, with no lock held.
+/// What a worker passes before each guard, with no lock held.
 pub trait Gate {
-    /// Returns when the step may be done.
+    /// Returns when the next steps may be done: at most [`STEPS_A_GUARD`].
     fn pass(&self, spot: Spot);
 
     /// The worker has nothing to do, and waits for a message.
@@ -164,7 +167,47 @@ pub fn merge_once<D: Disk, T: Trace, N: DeskId>(
     turn_after(desk.merge(alloc, seat))
 }
 
-// Takes what was hashed of the lent bytes, does a turn of merging, and lends what then waits to be hashed.
+// Does steps of conversion, at most as many as a guard has, until one asks for something else than to go on.
+fn convert_some<D: Disk, T: Trace, N: DeskId>(
+    desk: &mut Desk<D, T, N>,
+    alloc: Global,
+    seat: &mut Seat<N>,
+) -> Turn
+    ensures waits { wants_convert desk.old.core ≡ false → (result ≡ TurnOf.Wait) × (desk.new ≡ desk.old) × (seat.new ≡ seat.old) }
+    ensures caller { seat.new.caller ≡ seat.old.caller }
+{
+    let mut turn = convert_once(desk, alloc, seat);
+    for _ in 1..STEPS_A_GUARD {
+        if turn != Turn::GoOn {
+            return turn;
+        }
+        turn = convert_once(desk, alloc, seat);
+    }
+    turn
+}
+
+// Does steps of merging, at most as many as a guard has, until one asks for something else than to go on, or the next one ends a
+// merge.
+fn merge_some<D: Disk, T: Trace, N: DeskId>(
+    desk: &mut Desk<D, T, N>,
+    alloc: Global,
+    seat: &mut Seat<N>,
+    least: u32,
+) -> Turn
+    ensures waits { may_merge desk.old.core least ≡ false → (result ≡ TurnOf.Wait) × (desk.new ≡ desk.old) × (seat.new ≡ seat.old) }
+    ensures caller { seat.new.caller ≡ seat.old.caller }
+{
+    let mut turn = merge_once(desk, alloc, seat, least);
+    for _ in 1..STEPS_A_GUARD {
+        if turn != Turn::GoOn || desk.ends_merge() {
+            return turn;
+        }
+        turn = merge_once(desk, alloc, seat, least);
+    }
+    turn
+}
+
+// Takes what was hashed of the lent bytes, does steps of merging, and lends what then waits to be hashed.
 fn merge_ahead<D: Disk, T: Trace, N: DeskId>(
     desk: &mut Desk<D, T, N>,
     alloc: Global,
@@ -173,14 +216,13 @@ fn merge_ahead<D: Disk, T: Trace, N: DeskId>(
     lent: &mut Option<LentBytes>,
 ) -> Turn
     ensures waits { may_merge desk.old.core least ≡ false → (result ≡ TurnOf.Wait) × (desk.new ≡ desk.old) × (seat.new ≡ seat.old) }
-    ensures steps { may_merge desk.old.core least ≡ true → (answer : Result ProgressOf (RefusalOf D.Fault)) × (result ≡ turn_of answer)
-        × Serves D.Disk T.Trace desk.old desk.new seat.old seat.new Merge (progress_reply answer) }
+    ensures caller { seat.new.caller ≡ seat.old.caller }
 {
     let Some(lent) = lent else {
-        return merge_once(desk, alloc, seat, least);
+        return merge_some(desk, alloc, seat, least);
     };
     desk.take_hashed(lent);
-    let turn = merge_once(desk, alloc, seat, least);
+    let turn = merge_some(desk, alloc, seat, least);
     desk.lend_unhashed(lent);
     turn
 }
@@ -270,7 +312,7 @@ fn rest<G: Gate, W: Hears, R: Wait + Clock>(
     }
 }
 
-/// Does steps of conversion, each under a guard of its own, until it hears that it is to end. Gives its seat back.
+/// Does steps of conversion, some under each guard, until it hears that it is to end. Gives its seat back.
 pub fn converter<D: Disk, T: Trace, N: DeskId, G: Gate, W: Hears, R: Wait + Clock>(
     rt: &R,
     alloc: Global,
@@ -286,7 +328,7 @@ pub fn converter<D: Disk, T: Trace, N: DeskId, G: Gate, W: Hears, R: Wait + Cloc
         gate.pass(Spot::Converter);
         let turn = match gate.is_closed() {
             true => Turn::Wait,
-            false => convert_once(&mut *shared.write(rt), alloc, &mut seat),
+            false => convert_some(&mut *shared.write(rt), alloc, &mut seat),
         };
         if !rest(rt, turn, Spot::Converter, gate, &ends) {
             return seat;
@@ -295,7 +337,7 @@ pub fn converter<D: Disk, T: Trace, N: DeskId, G: Gate, W: Hears, R: Wait + Cloc
     unreachable!()
 }
 
-// Does a turn of merging under a guard of its own, unless the gate is closed. Returns also whether the next one ends a merge.
+// Does steps of merging under one guard, unless the gate is closed. Returns also whether the next one ends a merge.
 fn merge_turn<D: Disk, T: Trace, N: DeskId, G: Gate, R: Wait>(
     rt: &R,
     alloc: Global,
@@ -315,8 +357,8 @@ fn merge_turn<D: Disk, T: Trace, N: DeskId, G: Gate, R: Wait>(
     (turn, desk.ends_merge())
 }
 
-/// Does steps of merging, each under a guard of its own, until it hears that it is to end. Gives its seat back. Between two
-/// steps, with no guard, it hashes what the merge has read. Without memory for that, the steps hash it.
+/// Does steps of merging, some under each guard, until it hears that it is to end. The step that ends a merge is the first one of its
+/// guard. Gives its seat back. Between two guards it hashes what the merge has read. Without memory for that, the steps hash it.
 pub fn merger<D: Disk, T: Trace, N: DeskId, G: Gate, W: Hears, R: Wait + Clock>(
     rt: &R,
     alloc: Global,
