@@ -1,6 +1,6 @@
 -- What a call costs, from what the store does.
 use Rattle.std.proofs.Common.{◌≡◌, ◌≢◌, ℕ, ◌+◌, ◌*◌, ◌≤◌, Bool, true, false, IsTrue, List, [], ◌∷◌, length, Some, None, inl, inr, refl, ap, sym, ◌∙◌, subst, arith}
-use Rattle.silt_disk.specs.Disk.{Makes, MakesAtMost}
+use Rattle.silt_disk.specs.Disk.{MakesAtMost}
 use Rattle.silt_disk.specs.declared.disk.Disk.{Ghosts}
 use Rattle.silt_disk.proofs.Costs.{most_made, most_more, most_none}
 use Rattle.silt_manifest.specs.declared.body.Body.{Body}
@@ -12,7 +12,7 @@ use Rattle.silt_event.specs.declared.progress.Progress.{Progress as ProgressOf}
 use Rattle.silt_event.specs.declared.progress.Progress.TheVariants.{Idle, Waiting, Moved, Finished}
 use Rattle.silt_event.specs.declared.refusal.Refusal.{Refusal}
 use Rattle.silt_event.specs.declared.reply.Reply.{Reply}
-use Rattle.silt_event.specs.declared.reply.Reply.TheVariants.{Accepted, Acknowledged, Found, Absent, Differs, Progress, Refused, Unsettled, NotServed}
+use Rattle.silt_event.specs.declared.reply.Reply.TheVariants.{Accepted, Acknowledged, Found, Absent, Differs, Progress, Refused}
 use Rattle.silt_engine.specs.Costs.{step_syncs, step_writes}
 use Rattle.silt_store_set.specs.CoreState.{CoreState, Does, MakesRow, WritesRow, convert_due, is_finished, most_syncs, most_writes, some_wait}
 use Rattle.silt_desk.specs.History.{accepted_by}
