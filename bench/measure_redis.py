@@ -3,8 +3,8 @@
 
     bench/measure_redis.py [--program PATH] [--folder FOLDER] [--proxy]
 
-There are three stores of silt: the one that `plan` gives for the names, one with larger logs, and a set of four shards that `plan`
-gives. redis appends each command to its file and syncs it before the reply (appendfsync always), as silt does. All set and get 64
+There are four stores of silt: the one that `plan` gives for the names, one with larger logs, and a set of four shards of each
+kind. redis appends each command to its file and syncs it before the reply (appendfsync always), as silt does. All set and get 64
 bytes under 100,000 names. Of each row three runs are made by turns, and the middle one is printed. With --proxy each server is
 behind a nutcracker of its own. On Debian it wants redis-server, redis-tools and, with --proxy, nutcracker. Nothing else is to run
 meanwhile.
@@ -23,15 +23,22 @@ TOP = pathlib.Path(__file__).resolve().parent.parent
 NAMES = 100_000
 LENGTH = 64
 VALUE_LEN = LENGTH + 2
-# A plan with this has eight times as large logs. Its store takes 9 MB of memory at most.
+# A plan with this has eight times as large logs. Its store takes 9 MB of memory at most, and so does a set of four.
 LARGE = ["--merge-writes", "1"]
 # Connections, commands that each sends at once, and commands in all.
 LOADS = [(1, 1, 1_500), (8, 1, 8_000), (64, 1, 50_000), (8, 50, 200_000), (64, 50, 300_000)]
 RUNS = 3
 # Twice as many as redis-benchmark has: it opens the next ones while those of the last load are being closed.
 CLIENTS = "130"
-SHARDS = 4
-STORES = ["planned", "large logs", f"{SHARDS} shards", "redis"]
+SHARDS = ["--shards", "4"]
+# What is asked of `plan` for each store, and what of `format` and `serve`.
+STORES = {
+    "planned": ([], []),
+    "large logs": (LARGE, []),
+    "4 shards": (SHARDS, SHARDS),
+    "4 shards, large logs": ([*LARGE, *SHARDS], SHARDS),
+}
+SERVERS = [*STORES, "redis"]
 # The configuration of a proxy before one server.
 PROXY = """one:
   listen: 127.0.0.1:{front}
@@ -113,19 +120,17 @@ def main():
     words.add_argument("--folder")
     words.add_argument("--proxy", action="store_true")
     words = words.parse_args()
-    heads = [f"{kind}/s {it}" for kind in ("SET", "GET") for it in (*STORES, "to redis")]
+    heads = [f"{kind}/s {it}" for kind in ("SET", "GET") for it in (*SERVERS, "each to redis")]
     print(f"| connections | at once | {' | '.join(heads)} |")
     print("|---" * (2 + len(heads)) + "|")
     with tempfile.TemporaryDirectory(dir=words.folder) as folder:
         folder = pathlib.Path(folder)
-        ports = [free_port() for _ in STORES]
-        set_of = ["--shards", str(SHARDS)]
+        ports = [free_port() for _ in SERVERS]
         servers = [
-            silt_words(words.program, folder / "planned", planned(words.program), ports[0]),
-            silt_words(words.program, folder / "large", planned(words.program, *LARGE), ports[1]),
-            silt_words(words.program, folder / "set", planned(words.program, *set_of), ports[2], *set_of),
-            redis_words(folder, ports[3]),
+            silt_words(words.program, folder / name, planned(words.program, *asked), port, *options)
+            for port, (name, (asked, options)) in zip(ports, STORES.items())
         ]
+        servers.append(redis_words(folder, ports[-1]))
         with contextlib.ExitStack() as running:
             for server, port in zip(servers, ports):
                 running.enter_context(serving(server, port))
@@ -134,7 +139,7 @@ def main():
                 runs = [[measured(port, load) for port in ports] for _ in range(RUNS)]
                 row = [load[0], load[1]]
                 for kind in range(2):
-                    rates = [statistics.median(run[server][kind] for run in runs) for server in range(len(STORES))]
+                    rates = [statistics.median(run[server][kind] for run in runs) for server in range(len(SERVERS))]
                     row += [f"{it:,.0f}" for it in rates]
                     row.append(", ".join(f"{it / rates[-1]:.2f}" for it in rates[:-1]))
                 print(f"| {' | '.join(map(str, row))} |", flush=True)
