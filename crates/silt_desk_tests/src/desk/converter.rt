@@ -1,4 +1,4 @@
-// Commands get their replies between two steps of a worker.
+// Commands get their replies while a worker is between two guards.
 ghost use Rattle.std.specs.Prelude.{◌≡◌};
 
 use crate::desk::{
@@ -8,9 +8,9 @@ use crate::desk::{
 use crate::same;
 use crossbeam_channel::Sender;
 use silt_desk::{DeskId, Gate, Kept, Seat, Shared, Spot, Wake, WorkerEnds, converter, join_over};
-use silt_device::Disk;
+use silt_device::{Disk, Geometry, MemDisk};
 use silt_event::Progress;
-use silt_fixtures::{key, opened, reaches};
+use silt_fixtures::{key, opened_with, reaches};
 use silt_store_set::Core;
 use std::alloc::Global;
 use std::marker::Brand;
@@ -21,7 +21,7 @@ use std::test::Fail;
 use std::thread::Threads;
 use std::time::Clock;
 
-/// Holds a worker before its second step until it is opened.
+/// Holds a worker before its second guard until it is opened.
 #[derive(Drop)]
 struct Hold<'a, R: Clock> {
     rt: &'a R,
@@ -152,7 +152,7 @@ fn beside_conversion<D: Disk, N: DeskId + Send + Sync, R: Threads + Wait + Clock
     beside_held(rt, alloc, shared, pop_two(seats)?)
 }
 
-/// Another thread's calls get their replies while the worker is held before its second step.
+/// Another thread's calls get their replies while the worker is held before its second guard.
 fn held_between_steps<D: Disk, N: DeskId + Send + Sync, R: Threads + Wait + Clock + Sync>(
     rt: &R,
     alloc: Global,
@@ -170,9 +170,15 @@ fn held_between_steps<D: Disk, N: DeskId + Send + Sync, R: Threads + Wait + Cloc
     found
 }
 
+/// A store whose conversions have 129 steps each, more than one guard has.
+fn wide(alloc: Global) -> Result<Core<MemDisk>, Fail> {
+    let geometry = Geometry::new(2, 32, 4, 2, 2, 8).ok().ok_or("in limits")?;
+    opened_with(alloc, geometry)
+}
+
 #[test]
 fn held_converter(rt: HostRuntime) -> Result<(), Fail> {
-    let core = opened(rt.alloc())?;
+    let core = wide(rt.alloc())?;
     let found = held_between_steps::<_, Brand, _>(
         &rt,
         rt.alloc(),
