@@ -1,30 +1,23 @@
 -- Steps of background work, one more at a time.
-use Rattle.silt_jobs.proofs.Common.{◌≡◌, ◌≢◌, ◌+◌, ◌≤◌, ◌<◌, ℕ, Bool, true, false, IsTrue, List, [], ◌∷◌, ◌++◌, length, Option, Some, None, Result, Ok, refl, sym, ap, ◌∙◌, subst}
-use Rattle.silt_jobs.proofs.Common.{arith, inl, inr, All-nil, All-push, Ghosts, Shape, HasValueOf, Convert, Merge, Refusal, CoreState, DoesPlain, is_refused, PlainRefusal}
-use Rattle.silt_jobs.proofs.Common.{TendsDue, TendsThenDoes, begins, due_at_once, is_idle}
-use Rattle.std.proofs.Common.{◌&&◌, ◌||◌, not, cond}
 use Rattle.std.proofs.Common.{option_map, Err}
-use Rattle.std.specs.Prelude.{IsErrAnd, is_some}
-use Rattle.std.proofs.lemmas.List.{length-append}
-use Rattle.silt_jobs.specs.Common.{PlainReply, plain_refusal, Event, Idle, Waiting, Reply, NoRoom, Spent, Refused}
-use Rattle.silt_jobs.specs.Common.{Does, awaits_region, convert_due, is_convert, is_merge, wants_convert}
+use Rattle.silt_jobs.proofs.Common.{◌≡◌, ◌≢◌, ◌+◌, ◌≤◌, ◌<◌, ℕ, Bool, true, false, IsTrue, List, [], ◌∷◌, ◌++◌, length, Option, Some, None, Result, Ok, refl, sym, ap}
+use Rattle.silt_jobs.proofs.Common.{◌∙◌, subst, arith, inl, inr, All-nil, All-push, Ghosts, Shape, HasValueOf, Convert, Merge, Refusal, CoreState, DoesPlain}
+use Rattle.silt_jobs.proofs.Common.{is_refused, PlainRefusal, TendsDue, TendsThenDoes, begins, due_at_once, is_idle, ◌&&◌, ◌||◌, not, cond, IsErrAnd, is_some}
+use Rattle.silt_jobs.proofs.Common.{length-append, PlainReply, plain_refusal, Event, Idle, Waiting, Reply, NoRoom, Spent, Refused, Does, awaits_region, convert_due}
+use Rattle.silt_jobs.proofs.Common.{is_convert, is_merge, wants_convert}
 use Rattle.silt_event.specs.Events.{plain}
 use Rattle.silt_event.specs.declared.event.Event.TheVariants.{Delete, Put, Swap}
 use Rattle.silt_event.specs.declared.progress.Progress.{Progress as ProgressOf}
 use Rattle.silt_event.specs.declared.reply.Reply.TheVariants.{Progress}
 use Rattle.silt_store_set.specs.CoreState.{Cause, ConvertsTo}
-use Rattle.silt_jobs.specs.BackgroundWork.{AreDone, RunsDue, StopsAt, TakesSteps, TendsAll, TendsPlain, count_of}
-use Rattle.silt_jobs.specs.BackgroundWork.{due_between, error_of, is_paused, merges, most_steps}
+use Rattle.silt_jobs.specs.BackgroundWork.{AreDone, RunsDue, StopsAt, TakesSteps, TendsAll, TendsPlain, count_of, due_between, error_of, is_paused, merges}
+use Rattle.silt_jobs.specs.BackgroundWork.{most_steps}
 use Rattle.silt_jobs.specs.declared.jobs.background_work.Steps.{Steps}
 
 -- one event more is one more of its kind
 pub count_more : (is_kind : Event → Bool) (events : List Event) (event : Event) → count_of is_kind (events ++ event ∷ []) ≡ count_of is_kind events + cond (is_kind event) 1 0
 count_more is_kind [] event = omega arith
 count_more is_kind (e ∷ events) event = omega (arith, count_more is_kind events event)
-
--- one step more that was not refused
-pub done_more : {F : Type 0} (replies : List (Reply F)) (reply : Reply F) → AreDone replies → is_refused reply ≡ false → AreDone (replies ++ reply ∷ [])
-done_more replies reply fine is = All-push (λ reply. is_refused reply ≡ false) replies reply fine is
 
 -- there was no refusal, if there is none without its fault
 pub none_plain : {F : Type 0} (refused : Option (Refusal F)) (refusal : Option PlainRefusal) → refusal ≡ option_map plain_refusal refused → refusal ≡ None → refused ≡ None
@@ -34,19 +27,15 @@ none_plain (Some r) refusal is none = absurd (cc)
 -- what holds of this refusal holds of that of a result which is one
 pub due_error : {T F : Type 0} (P : Option (Refusal F) → Type 0) (result : Result T (Refusal F)) (refusal : Refusal F) → IsErrAnd result (λ e. e ≡ refusal) → P (Some refusal) → P (error_of result)
 due_error P (Ok value) refusal is p = absurd is
-due_error {T} {F} P (Err e) refusal is p = subst (λ (r : Refusal F). P (Some r)) (sym is) p
+due_error P (Err e) refusal is p = rw is p
 
 -- the store rests if no conversion is due and no merge begins
 pub rests_so : (idle begun : Bool) → (idle && not begun) ≡ true → (idle ≡ true) × (begun ≡ false)
-rests_so true false is = (refl, refl)
-rests_so true true is = absurd (cc)
-rests_so false begun is = absurd (cc)
+rests_so idle begun is = grind arith
 
 -- a merge is due if the store does not rest where no conversion is due
 idle_due : (waits begun : Bool) → (true && not begun) ≡ false → (waits || begun) ≡ true
-idle_due true begun is = refl
-idle_due false true is = refl
-idle_due false false is = absurd (cc)
+idle_due waits begun is = grind arith
 
 module _ {D F : Type 0} (facts : Ghosts D F) (is_due : CoreState D → Event → Bool) where
   -- a run of steps that are due goes on by one
@@ -93,7 +82,7 @@ module _ {D F : Type 0} (facts : Ghosts D F) where
       → Does facts mid new event (Progress progress) → Going least old new (turn + 1)
   going_more least old mid new event progress turn due going does = record {
     steps = one_more facts (due_between least) old mid new event (Progress progress) due going.steps does;
-    fine = done_more going.steps.replies (Progress progress) going.fine refl;
+    fine = All-push (λ reply. is_refused reply ≡ false) going.steps.replies (Progress progress) going.fine refl;
     many = omega (arith, going.many, length-append going.steps.replies (Progress progress ∷ []));
     shape = does.shape ∙ going.shape;
   }
@@ -106,15 +95,12 @@ module _ {D F : Type 0} (facts : Ghosts D F) where
       record { steps = both.steps; fine = both.fine; many = omega (arith, both.many); shape = both.shape }
 
   -- a merge is due if no conversion can go on and the store does not rest
-  merge_due_after : (least : Option ℕ) (mid new : CoreState D) (progress : ProgressOf) → progress ≡ convert_due mid → ConvertsTo facts mid new progress → is_paused progress ≡ true
-      → (is_idle progress && not (begins new least)) ≡ false → IsTrue (due_between least new Merge)
-  merge_due_after least mid new Idle is same paused rests = idle_due (awaits_region (convert_due new)) (begins new least) rests
-  merge_due_after least mid new Waiting is same paused rests = ap (λ (p : ProgressOf). awaits_region p || begins new least) (ap (λ (c : CoreState D). convert_due c) same ∙ sym is)
-  merge_due_after least mid new progress is same paused rests = absurd (cc)
-
   pub paused_due : (least : Option ℕ) (mid new : CoreState D) (progress : ProgressOf) → Does facts mid new Convert (Progress progress) → is_paused progress ≡ true
       → (is_idle progress && not (begins new least)) ≡ false → IsTrue (due_between least new Merge)
-  paused_due least mid new progress does paused rests = merge_due_after least mid new progress does.cause.1 does.cause.2 paused rests
+  paused_due least mid new Idle does paused rests = idle_due (awaits_region (convert_due new)) (begins new least) rests
+  paused_due least mid new Waiting does paused rests =
+      ap (λ (p : ProgressOf). awaits_region p || begins new least) (ap (λ (c : CoreState D). convert_due c) does.cause.2 ∙ sym does.cause.1)
+  paused_due least mid new progress does paused rests = absurd (cc)
 
   -- if a conversion finds nothing to do, no step is due
   progress_idle : (mid new : CoreState D) (progress : ProgressOf) → progress ≡ convert_due mid → ConvertsTo facts mid new progress → is_idle progress ≡ true → convert_due new ≡ Idle
@@ -147,12 +133,9 @@ module _ {D F : Type 0} (facts : Ghosts D F) where
   fits_after was now event fits shape = subst (λ (s : Shape). HasValueOf s.value_len event) (sym shape) fits
 
   -- a refusal for lack of room is one with its fault too
-  refusal_for_room : (refusal : Refusal F) → plain_refusal refusal ≡ NoRoom → refusal ≡ NoRoom
-  refusal_for_room NoRoom is = refl
-  refusal_for_room refusal is = absurd (cc)
-
   reply_for_room : (reported : Reply F) → plain reported ≡ Refused NoRoom → reported ≡ Refused NoRoom
-  reply_for_room (Refused refusal) is = ap (λ (r : Refusal F). Refused r) (refusal_for_room refusal (cc))
+  reply_for_room (Refused NoRoom) is = refl
+  reply_for_room (Refused refusal) is = absurd (cc)
   reply_for_room reported is = absurd (cc)
 
   -- an event is refused for lack of room only while a conversion is due or waits
@@ -213,7 +196,7 @@ module _ {D F : Type 0} (facts : Ghosts D F) where
       → is_refused reply ≡ false → Does facts mid new event reply → Counted least old new more even_more (turn + 1)
   counted_more least old mid new event reply converted merged more even_more turn counted due converts merges one fine does = record {
     taken = one_more facts (due_at_once least) old mid new event reply due counted.taken does;
-    fine = done_more counted.taken.replies reply counted.fine fine;
+    fine = All-push (λ reply. is_refused reply ≡ false) counted.taken.replies reply counted.fine fine;
     converts = omega (arith, converts, counted.converts, count_more is_convert counted.taken.events event);
     merges = omega (arith, merges, counted.merges, count_more is_merge counted.taken.events event);
     all = omega (arith, one, counted.all);

@@ -1,15 +1,13 @@
 -- The lines of entries, written piece by piece.
-use Rattle.silt_jobs.proofs.Common.{◌≡◌, ◌++◌, ℕ, IsTrue, List, [], ◌∷◌, Option, Some, None, Result, Ok, inl, inr, refl, ap, sym, subst, ◌∙◌, append_assoc, Appends, Content}
-use Rattle.silt_jobs.proofs.Common.{GaveAny, Ghosts, Key, image_map, OpenError, IsNextEntry, PassesTo, Appends-append, Dumps, Ended}
 use Rattle.std.proofs.Common.{IfOk, Err, append-nil}
 use Rattle.std.proofs.lemmas.Grind.{flat_map-append}
-use Rattle.silt_jobs.specs.Common.{AreFirstEntries, EndsEarly}
-use Rattle.silt_wire.proofs.Streams.{Appends-none}
+use Rattle.silt_jobs.proofs.Common.{◌≡◌, ◌++◌, ℕ, IsTrue, List, [], ◌∷◌, Option, Some, None, Result, Ok, inl, inr, refl, sym, subst, ◌∙◌, append_assoc, Appends}
+use Rattle.silt_jobs.proofs.Common.{Content, GaveAny, Ghosts, Key, image_map, OpenError, IsNextEntry, PassesTo, Appends-append, Dumps, Ended, AreFirstEntries}
+use Rattle.silt_jobs.proofs.Common.{EndsEarly, Appends-none, AreDumped, EndsDump, GathersLines, WritesLines, entry_lines, put_line}
 use Rattle.silt_dump.specs.Order.{AreOrderedTo}
 use Rattle.silt_dump.specs.Stream.{Streams, value_len_of}
 use Rattle.silt_dump.specs.declared.stream.EntryStream.{EntryStream}
 use Rattle.silt_dump.proofs.Firsts.{all_first, first_more, no_entries, no_first, ordered_more, with_entry}
-use Rattle.silt_jobs.specs.Dump.{EndsDump, GathersLines, WritesLines, entry_lines, put_line}
 
 -- a stream has given these entries, and their lines are written and gathered
 pub record HasGathered (content : Content) (stream : EntryStream) (len : ℕ) (before after : Option (List ℕ)) (lines : List ℕ) : Type 0 where
@@ -31,21 +29,11 @@ gathers_none content stream len before lines streams last long none = record {
   written = [];
   streams = streams;
   long = long;
-  ordered = subst (λ (l : Option Key). AreOrderedTo l []) (sym last) no_entries;
-  first = λ honest. subst (λ (l : Option Key). AreFirstEntries (image_map content.shown) l []) (sym last) (no_first (image_map content.shown));
+  ordered = rw last no_entries;
+  first = λ honest. rw last (no_first (image_map content.shown));
   appends = Appends-none before;
   joined = none;
 }
-
--- the lines of entries with one more
-lines_more : (entries : List (Key × List ℕ)) (key : Key) (value : List ℕ) → entry_lines (with_entry entries key value) ≡ entry_lines entries ++ put_line key value
-lines_more entries key value =
-    flat_map-append (λ (e : Key × List ℕ). put_line e.0 e.1) entries ((key, value) ∷ []) ∙ ap (λ (last : List ℕ). entry_lines entries ++ last) (append-nil (put_line key value))
-
--- what was written and what is gathered, after one more line, some of whose bytes were written
-lines_joined : (written lines line passed kept all : List ℕ) → lines ++ line ≡ passed ++ kept → written ++ lines ≡ all → (written ++ passed) ++ kept ≡ all ++ line
-lines_joined written lines line passed kept all split so_far =
-    append_assoc written passed kept ∙ ap (λ (bytes : List ℕ). written ++ bytes) (sym split) ∙ sym (append_assoc written lines line) ∙ ap (λ (bytes : List ℕ). bytes ++ line) so_far
 
 -- some of the gathered bytes were written
 abbrev pub PassesOn : Option (List ℕ) → Option (List ℕ) → List ℕ → List ℕ → Type 0
@@ -66,7 +54,13 @@ module _ (content : Content) (old : EntryStream) (len : ℕ) (before mid : Optio
         subst (λ (l : Option Key). AreFirstEntries (image_map content.shown) l (with_entry gathered.entries key value)) (sym passes.last)
         (first_more old.last gathered.entries gathered.ordered (image_map content.shown) key value passes.above (gathered.first honest) (next honest));
     appends = Appends-append before mid after gathered.written on.0 gathered.appends on.2;
-    joined = lines_joined gathered.written lines (put_line key value) on.0 kept (entry_lines gathered.entries) on.1 gathered.joined ∙ sym (lines_more gathered.entries key value);
+    joined =
+        cc (
+          append_assoc gathered.written on.0 kept,
+          append_assoc gathered.written lines (put_line key value),
+          append-nil (put_line key value),
+          flat_map-append (λ (e : Key × List ℕ). put_line e.0 e.1) gathered.entries ((key, value) ∷ []),
+        );
   }
 
 module _ {D F : Type 0} (facts : Ghosts D F) (disk : D) (stream : EntryStream) (len : ℕ) (before after : Option (List ℕ)) (lines : List ℕ)
@@ -74,38 +68,26 @@ module _ {D F : Type 0} (facts : Ghosts D F) (disk : D) (stream : EntryStream) (
   -- it has given all
   pub gathers_all : (value : List ℕ) → (IsTrue (facts.content disk).honest → IsNextEntry (image_map (facts.content disk).shown) stream.last None value)
       → GathersLines facts disk None before after lines
-  gathers_all value none = (
-    gathered.entries,
-    gathered.written,
-    (gathered.ordered.ordered, λ honest. all_first stream.last gathered.entries gathered.ordered (image_map (facts.content disk).shown) (gathered.first honest) (none honest)),
-    gathered.appends,
-    gathered.joined,
-  )
+  gathers_all value none =
+      let dumped : AreDumped facts disk None gathered.entries =
+      (gathered.ordered.ordered, λ honest. all_first stream.last gathered.entries gathered.ordered (image_map (facts.content disk).shown) (gathered.first honest) (none honest)) in
+      (gathered.entries, gathered.written, dumped, gathered.appends, gathered.joined)
 
   -- it has ended early
   pub gathers_some : (error : OpenError F) → EndsEarly (IsTrue (facts.content disk).honest) (GaveAny facts.gave disk) error → GathersLines facts disk (Some error) before after lines
-  gathers_some error why = (
-    gathered.entries,
-    gathered.written,
-    (gathered.ordered.ordered, (λ honest. (stream.last, gathered.first honest)), why),
-    gathered.appends,
-    gathered.joined,
-  )
+  gathers_some error why =
+      let dumped : AreDumped facts disk (Some error) gathered.entries = (gathered.ordered.ordered, (λ honest. (stream.last, gathered.first honest)), why) in
+      (gathered.entries, gathered.written, dumped, gathered.appends, gathered.joined)
 
 module _ {D F : Type 0} (facts : Ghosts D F) (disk : D) (early : Option (OpenError F)) where
   -- the last lines were written too
   pub writes_lines : (before mid after : Option (List ℕ)) (lines : List ℕ) → GathersLines facts disk early before mid lines → Appends mid after lines → WritesLines facts disk early before after
-  writes_lines before mid after lines gathers rest = (
-    gathers.0,
-    gathers.2,
-    subst (Appends before after) gathers.4 (Appends-append before mid after gathers.1 lines gathers.3 rest),
-  )
+  writes_lines before mid after lines gathers rest = (gathers.0, gathers.2, rw gathers.4 at (Appends-append before mid after gathers.1 lines gathers.3 rest))
 
 -- a job that ended with the status 0 behind these lines
 done_behind : {X : Type 0} (status : Result ℕ X) (before mid after : Option (List ℕ)) (lines : List ℕ) → status ≡ Ok 0 → after ≡ mid
     → Appends before mid lines → IfOk status (λ s. (s ≡ 0) × Appends before after lines)
-done_behind {X} status before mid after lines is same appends =
-    subst (λ (r : Result ℕ X). IfOk r (λ s. (s ≡ 0) × Appends before after lines)) (sym is) (refl, subst (λ (o : Option (List ℕ)). Appends before o lines) (sym same) appends)
+done_behind {X} status before mid after lines is same appends = rw (is, same) (refl, appends)
 
 -- the end of a dump behind the lines of a stream
 pub dumped : {D E F X : Type 0} (facts : Ghosts D F) (disk : D) (written : Result (Option (OpenError F)) X) (ended : Ended E F) (before mid after : Option (List ℕ))

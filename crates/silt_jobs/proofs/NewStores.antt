@@ -1,10 +1,7 @@
 -- New stores on disks in memory: why one is refused, and which crash images it has.
-use Rattle.silt_jobs.proofs.Common.{◌≡◌, ◌∙◌, ℕ, ap, length, List, get_or, IsTrue, subst, GaveAny, size, Content, LeavesOnly, Shape, device_size, memory_content, MemFault, IsSafe}
-use Rattle.silt_jobs.proofs.Common.{NewStoreCause, empty}
-use Rattle.std.proofs.Common.{replicate}
-use Rattle.std.proofs.lemmas.List.{length-replicate}
-use Rattle.silt_jobs.specs.Common.{memory_gave, MemDisk, FormatCause, FormatError}
-use Rattle.silt_jobs.specs.Common.{refusal_of_formatting, StandsFor}
+use Rattle.silt_jobs.proofs.Common.{◌≡◌, ◌∙◌, ℕ, ap, length, List, get_or, IsTrue, subst, GaveAny, size, Content, LeavesOnly, Shape, device_size, memory_content}
+use Rattle.silt_jobs.proofs.Common.{MemFault, IsSafe, NewStoreCause, empty, replicate, length-replicate, memory_gave, MemDisk, FormatCause, FormatError}
+use Rattle.silt_jobs.proofs.Common.{refusal_of_formatting, StandsFor}
 use Rattle.silt_disk.specs.Disk.{Stays}
 use Rattle.silt_device.specs.Memory.{IsFresh}
 use Rattle.silt_standing.specs.Standing.{SameDisk}
@@ -36,8 +33,5 @@ stays_leaves old new P stays leaves = record {
 -- an image that represents the empty map is safe for it
 pub new_is_safe : (content : Content) (shape : Shape) → LeavesOnly content (StandsFor shape empty) → LeavesOnly content (IsSafe shape.value_len empty)
 new_is_safe content shape leaves =
-    leaves_weaker content (StandsFor shape empty) (IsSafe shape.value_len empty) leaves (λ image stands. record {
-      good = stands.good;
-      has_len = ap (λ (s : Shape). s.value_len) stands.has_shape;
-      has_map = stands.has_map;
-    })
+    leaves_weaker content (StandsFor shape empty) (IsSafe shape.value_len empty) leaves
+    (λ image stands. record { good = stands.good; has_len = ap (λ (s : Shape). s.value_len) stands.has_shape; has_map = stands.has_map })

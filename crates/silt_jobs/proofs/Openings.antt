@@ -1,13 +1,12 @@
 -- Jobs on a disk that a source gave, or did not give, and why a header is not known.
-use Rattle.silt_jobs.proofs.Common.{◌≡◌, ℕ, List, Option, Some, None, Result, Ok, inl, inr, refl, subst, Content, Ghosts, CoreState, Refuses, Ended, Why, IsTrue, GaveAny, size}
-use Rattle.silt_jobs.proofs.Common.{OpenError}
-use Rattle.std.specs.Prelude.{IfErr, IfOk, IsOkAnd, Err}
+use Rattle.std.specs.Prelude.{IfOk, Err}
 use Rattle.std.specs.Option.{IsSomeAnd}
-use Rattle.silt_jobs.specs.Common.{Says, SaysSo, Unmarked, Opens, header_of, shape_found, IsRefusedLook}
+use Rattle.silt_jobs.proofs.Common.{◌≡◌, ℕ, List, Option, Some, None, Result, Ok, inl, inr, refl, subst, Content, Ghosts, CoreState, Refuses, Ended, Why, IsTrue}
+use Rattle.silt_jobs.proofs.Common.{GaveAny, size, OpenError, IfErr, IsOkAnd, Says, SaysSo, Unmarked, Opens, header_of, shape_found, IsRefusedLook}
 use Rattle.silt_jobs.specs.Openings.{IsNotOpened, IsRefused, IsUnopened, OnDisk, RefusesDisk, RefusesFor}
-use Rattle.silt_event.specs.declared.damage.Finding.TheVariants as finding
 use Rattle.silt_jobs.specs.Damage.{LacksShape}
 use Rattle.silt_recovery.specs.declared.fault.OpenError.TheVariants.{NotFormatted, Damaged, Crowded, Device, NoMemory}
+use Rattle.silt_event.specs.declared.damage.Finding.TheVariants as finding
 
 -- a store of its own was opened on the disk that the source gave
 pub opened_alone : {D E F : Type 0} (facts : Ghosts D F) (Given : D → Type 0) (result : Result D E) (core : CoreState D) → IfOk result Given
@@ -32,8 +31,7 @@ module _ {D E F : Type 0} (facts : Ghosts D F) where
   -- the store on a disk with the same content was not opened, and the job was refused for that
   pub refused_disk : (old same : D) (left : Option D) (why : Why E F) (ended : Ended E F) (before after : Option (List ℕ)) → facts.content same ≡ facts.content old
       → IsNotOpened facts (Ok same) left why → Refuses why ended before after → RefusesDisk facts old left ended before after
-  refused_disk old same left why ended before after is opening refused =
-      refused_for (IsRefused facts) old left why ended before after (subst (λ (content : Content). IsSomeAnd left (λ new. IsRefused facts content new why)) is opening) refused
+  refused_disk old same left why ended before after is opening refused = refused_for (IsRefused facts) old left why ended before after (rw is at opening) refused
 
   -- no store of its own was opened, and the job was refused for that
   pub refused_opening : (Given : D → Type 0) (NotGiven : E → Type 0) (Done : D → Type 0) (result : Result D E) (left : Option D) (why : Why E F) (ended : Ended E F)

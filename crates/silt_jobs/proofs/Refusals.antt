@@ -1,11 +1,10 @@
 -- The line of a refusal, and scripts that end with it.
-use Rattle.silt_jobs.proofs.Common.{◌≡◌, [], ◌∷◌, ◌++◌, List, ℕ, Option, ap, arith, subst, sym, Result, Ok, inr, Appends, Refusal, Shape, MemFault, NewStoreCause}
-use Rattle.std.proofs.Common.{codes, Err}
+use Rattle.std.proofs.Common.{Err}
 use Rattle.std.proofs.lemmas.Fmt.{decimal_digit}
-use Rattle.silt_jobs.specs.Common.{Refused}
-use Rattle.silt_event.specs.declared.refusal.Refusal.TheVariants.{NoMemory, Device}
-use Rattle.silt_jobs.specs.Scripts.{reply_line, AnswersScript, ScriptCause}
 use Rattle.std.specs.Prelude.{IfOk}
+use Rattle.silt_jobs.proofs.Common.{◌≡◌, [], ◌∷◌, ◌++◌, List, ℕ, Option, ap, arith, sym, Result, Ok, inr, Appends, Refusal, Shape, MemFault, NewStoreCause, codes}
+use Rattle.silt_jobs.proofs.Common.{Refused, reply_line, AnswersScript, ScriptCause}
+use Rattle.silt_event.specs.declared.refusal.Refusal.TheVariants.{NoMemory, Device}
 
 pub no_memory_line : (F : Type 0) → codes "refused 6 NoMemory\n" ≡ reply_line {F = F} (Refused NoMemory)
 no_memory_line F = ap (λ (digits : List ℕ). (codes "refused " ++ (digits ++ codes " NoMemory")) ++ 10 ∷ []) (sym (decimal_digit 6 (search (arith))))
@@ -13,8 +12,7 @@ no_memory_line F = ap (λ (digits : List ℕ). (codes "refused " ++ (digits ++ c
 -- this line reports that memory ran out
 pub reports_no_memory : {F : Type 0} (refusal : Refusal F) (before after : Option (List ℕ)) → refusal ≡ NoMemory → Appends before after (codes "refused 6 NoMemory\n")
     → Appends before after (reply_line (Refused refusal))
-reports_no_memory {F} refusal before after is reported =
-    subst (λ (r : Refusal F). Appends before after (reply_line (Refused r))) (sym is) (subst (λ (text : List ℕ). Appends before after text) (no_memory_line F) reported)
+reports_no_memory {F} refusal before after is reported = rw is (rw (no_memory_line F) at reported)
 
 -- a script is refused as a new store is
 pub refused_as_new : (shape : Shape) (refusal : Refusal MemFault) → NewStoreCause shape refusal → ScriptCause shape refusal

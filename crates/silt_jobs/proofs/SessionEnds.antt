@@ -1,12 +1,10 @@
 -- How sessions of one store and of the stores of a set ended.
-use Rattle.silt_jobs.proofs.Common.{◌≡◌, ℕ, false, List, [], ◌∷◌, Option, None, Ok, refl, sym, subst, inr, ◌∙◌, IfOk-weaker, Ghosts, AreAlike, CoreState, DoesPlain}
-use Rattle.silt_jobs.proofs.Common.{AdministersTended, PlainRefusal, TendedState, TendsThenDoes, first_refusal, set_value_len, tending_each, Ended, Failures, Tally}
-use Rattle.std.specs.Prelude.{IfOk, MatchBool}
+use Rattle.std.specs.Prelude.{IfOk}
 use Rattle.std.proofs.lemmas.List.Elements.{All-map}
-use Rattle.silt_jobs.specs.Common.{AdministersCore, SessionEnd, RunOptions}
+use Rattle.silt_jobs.proofs.Common.{◌≡◌, ℕ, false, List, [], ◌∷◌, Option, None, refl, sym, inr, ◌∙◌, IfOk-weaker, Ghosts, AreAlike, CoreState, DoesPlain}
+use Rattle.silt_jobs.proofs.Common.{AdministersTended, PlainRefusal, TendedState, TendsThenDoes, first_refusal, set_value_len, tending_each, Ended, Failures, Tally}
+use Rattle.silt_jobs.proofs.Common.{AdministersCore, SessionEnd, RunOptions, AnswersReader, EndsLife, EndsSession, EndsSo, AnswersCores, AnswersTended, OpensSession}
 use Rattle.silt_shards.specs.Sets.{value_len_of}
-use Rattle.silt_jobs.specs.Jobs.{AnswersReader, EndsLife, EndsSession, EndsSo}
-use Rattle.silt_jobs.specs.SetFiles.{AnswersCores, AnswersPlain, AnswersTended, OpensSession}
 use Rattle.silt_jobs.specs.declared.jobs.disk_jobs.EndedSession.{EndedSession}
 use Rattle.silt_jobs.specs.declared.people.streams.StreamError.{StreamError}
 
@@ -29,15 +27,7 @@ module _ {W : Type 0} (contents : W → Option (List ℕ)) (kept_error : W → O
       → session.refusal ≡ refusal → session.value_len ≡ value_len → IfOk session.end Known → EndsSession contents kept_error kept_tally options reading session ended answered after
       → IfOk ended.status (λ status. (it : SessionEnd) × Known it × EndsSo contents kept_error kept_tally options reading it refusal value_len status ended.found answered after)
   ended_known Known session ended answered after refusal value_len refused same known ends =
-      IfOk-weaker ended.status
-      (λ status. (it : SessionEnd) × (session.end ≡ Ok it) × EndsSo contents kept_error kept_tally options reading it session.refusal session.value_len status ended.found answered after)
-      (λ status. (it : SessionEnd) × Known it × EndsSo contents kept_error kept_tally options reading it refusal value_len status ended.found answered after)
-      (λ status so. (
-        so.0,
-        subst (λ r. IfOk r Known) so.1 known,
-        subst (λ n. EndsSo contents kept_error kept_tally options reading so.0 refusal n status ended.found answered after) same
-            (subst (λ r. EndsSo contents kept_error kept_tally options reading so.0 r session.value_len status ended.found answered after) refused so.2),
-      )) ends.2
+      IfOk-weaker ended.status _ _ (λ status so. (so.0, rw so.1 at known, rw (refused, same) at so.2)) ends.2
 
   module _ {D E F : Type 0} (facts : Ghosts D F) (remaining left : Option (List ℕ)) (before answered after : W) (session : EndedSession) (ended : Ended E F)
       (ends : EndsSession contents kept_error kept_tally options reading session ended answered after) where
@@ -45,35 +35,25 @@ module _ {W : Type 0} (contents : W → Option (List ℕ)) (kept_error : W → O
     pub life_ended : (Failed : D → Failures → Type 0) (core last : CoreState D) (new : D) → session.value_len ≡ core.shape.value_len → Failed new session.failures → new ≡ last.disk
         → IfOk session.end (λ it. AnswersReader facts contents options it session.refusal core last remaining left before answered)
         → EndsLife facts Failed contents kept_error kept_tally options reading core new ended remaining left before after
-    life_ended Failed core last new same failed disk opens = (
-      ends.0,
-      subst (Failed new) (sym ends.1) failed,
-      IfOk-weaker ended.status _ _ (λ status known. (known.0, session.refusal, last, answered, known.1, known.2, disk))
-          (ended_known (λ it. AnswersReader facts contents options it session.refusal core last remaining left before answered)
-          session ended answered after session.refusal core.shape.value_len refl same opens ends),
-    )
+    life_ended Failed core last new same failed disk opens =
+        let known = ended_known (λ it. AnswersReader facts contents options it session.refusal core last remaining left before answered)
+        session ended answered after session.refusal core.shape.value_len refl same opens ends in
+        (ends.0, rw ends.1 failed, IfOk-weaker ended.status _ _ (λ status so. (so.0, session.refusal, last, answered, so.1, so.2, disk)) known)
 
     -- stores that do background work replied to the lines as a set
     pub tended_stores : (stores last : List (TendedState D)) (value_len : ℕ) → session.refusal ≡ first_refusal last → session.value_len ≡ value_len
         → IfOk session.end (λ it. OpensSession (TendsThenDoes facts) AdministersTended contents it value_len stores last remaining left before answered)
         → AnswersTended facts contents kept_error kept_tally options reading value_len stores ended remaining left before after
-    tended_stores stores last value_len refused same opens = (
-      ends.0,
-      IfOk-weaker ended.status _ _ (λ status known. (known.0, last, answered, known.1, known.2))
-          (ended_known (λ it. OpensSession (TendsThenDoes facts) AdministersTended contents it value_len stores last remaining left before answered)
-          session ended answered after (first_refusal last) value_len refused same opens ends),
-    )
+    tended_stores stores last value_len refused same opens =
+        let known = ended_known (λ it. OpensSession (TendsThenDoes facts) AdministersTended contents it value_len stores last remaining left before answered)
+        session ended answered after (first_refusal last) value_len refused same opens ends in
+        (ends.0, IfOk-weaker ended.status _ _ (λ status so. (so.0, last, answered, so.1, so.2)) known)
 
     -- stores that do no background work replied to the lines as a set
     pub plain_cores : (cores last : List (CoreState D)) (value_len : ℕ) → options.tend ≡ false → value_len ≡ set_value_len cores → session.refusal ≡ None → session.value_len ≡ value_len
         → IfOk session.end (λ it. OpensSession (DoesPlain facts) AdministersCore contents it value_len cores last remaining left before answered)
         → AnswersCores facts contents kept_error kept_tally options reading cores ended remaining left before after
     plain_cores cores last value_len plain len none same opens =
-        inr (subst (λ b. MatchBool b (AnswersTended facts contents kept_error kept_tally options reading (set_value_len cores) (tending_each options.merge_at cores) ended remaining left before after)
-        (AnswersPlain facts contents kept_error kept_tally options reading (set_value_len cores) cores ended remaining left before after)) (sym plain)
-        (subst (λ n. AnswersPlain facts contents kept_error kept_tally options reading n cores ended remaining left before after) len (
-          ends.0,
-          IfOk-weaker ended.status _ _ (λ status known. (known.0, last, answered, known.1, known.2))
-              (ended_known (λ it. OpensSession (DoesPlain facts) AdministersCore contents it value_len cores last remaining left before answered)
-              session ended answered after None value_len none same opens ends),
-        )))
+        let known = ended_known (λ it. OpensSession (DoesPlain facts) AdministersCore contents it value_len cores last remaining left before answered)
+        session ended answered after None value_len none same opens ends in
+        inr (rw (plain, ← len) (ends.0, IfOk-weaker ended.status _ _ (λ status so. (so.0, last, answered, so.1, so.2)) known))

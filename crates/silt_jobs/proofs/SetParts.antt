@@ -1,20 +1,16 @@
 -- Jobs on the files of a set, shard by shard.
-use Rattle.silt_jobs.proofs.Common.{◌≡◌, ◌≤◌, ◌<◌, ◌+◌, ◌∙◌, ℕ, zero, suc, drop, max, false, true, List, [], ◌∷◌, ◌++◌, Option, Some, None, inl, inr, refl, sym, ap, subst, arith}
-use Rattle.silt_jobs.proofs.Common.{Ghosts, Dumps, exit_status, DoesEach, DoesFirst, DumpsFirst, worst_status, Ended, Failures, get_or, length, Bool, Result, Ok, size, Shape}
-use Rattle.silt_jobs.proofs.Common.{device_size, TendedState, Refuses, MakesShards, first_refusal, refusal_or, Why}
-use Rattle.std.specs.Prelude.{is_err, slice_get, MatchResult}
-use Rattle.silt_jobs.specs.SetFiles.{at_shard, is_done_so, HasFormatted, MakesShard, shard_file, done_by}
-use Rattle.silt_jobs.specs.SetJobs.{DoesShard, ended_with}
+use Rattle.std.specs.Prelude.{slice_get}
+use Rattle.std.proofs.Common.{Err}
+use Rattle.silt_jobs.proofs.Common.{◌≡◌, ◌≤◌, ◌<◌, ◌+◌, ◌∙◌, ℕ, zero, suc, drop, max, false, true, List, [], ◌∷◌, ◌++◌, Option, Some, None, inl, inr, refl, sym, ap}
+use Rattle.silt_jobs.proofs.Common.{arith, Ghosts, Dumps, exit_status, DoesEach, DoesFirst, DumpsFirst, worst_status, Ended, Failures, get_or, length, Bool, Result}
+use Rattle.silt_jobs.proofs.Common.{Ok, size, Shape, device_size, TendedState, Refuses, MakesShards, first_refusal, refusal_or, Why, is_err, MatchResult, at_shard}
+use Rattle.silt_jobs.proofs.Common.{is_done_so, HasFormatted, MakesShard, shard_file, done_by, DoesShard, ended_with, drop-cons, FormatOptions, Numbers, shape_asked}
 use Rattle.silt_jobs.specs.declared.people.ended.Ends.{Ends}
 use Rattle.silt_jobs.specs.declared.jobs.set_jobs.ShardJob.{ShardJob}
-use Rattle.std.proofs.Common.{Err}
-use Rattle.std.proofs.Math.Seq.{drop-cons}
-use Rattle.silt_jobs.specs.Common.{FormatOptions, Numbers}
 use Rattle.silt_device.specs.declared.source.DiskSource.{Ghosts as SourceOf}
 use Rattle.silt_shards.specs.Marks.{mark_at, mark_len}
-use Rattle.silt_jobs.specs.Files.{FormatsFile, FormatsSized, FormatsUnmarked, sized_by}
+use Rattle.silt_jobs.specs.Files.{FormatsFile, FormatsSized, sized_by}
 use Rattle.silt_jobs.specs.HeldData.{TellsStore, overwritten}
-use Rattle.silt_jobs.specs.Jobs.{shape_asked}
 use Rattle.silt_jobs.specs.declared.jobs.held_data.HeldStore.{HeldStore}
 use Rattle.silt_jobs.specs.declared.people.urgent.Urgent.{Urgent}
 
@@ -41,8 +37,7 @@ module _ {D E F : Type 0} (facts : Ghosts D F) (disks : List D) where
   pub dumped_more : (shard : ℕ) (disk : D) (dumped : Ended E F) (before between after : Option (List ℕ)) → slice_get disks shard ≡ Some disk → is_done_so dumped ≡ true
       → DumpsFirst facts E disks shard before between → Dumps facts disk dumped between after → DumpsFirst facts E disks (shard + 1) before after
   dumped_more shard disk dumped before between after there done so_far one =
-      let next : suc shard ≡ shard + 1 = omega arith in
-      subst (λ (n : ℕ). DumpsFirst facts E disks n before after) next (disk, dumped, between, there, done, so_far, one)
+      let next : shard + 1 ≡ suc shard = omega arith in rw next (disk, dumped, between, there, done, so_far, one)
 
 module _ {D E F : Type 0} (facts : Ghosts D F) (Failed : D → Failures → Type 0) (job : ShardJob) where
   -- the job was done on the next disk
@@ -50,29 +45,21 @@ module _ {D E F : Type 0} (facts : Ghosts D F) (Failed : D → Failures → Type
       → number ≡ shard → next ≡ suc number → parts ≡ front ++ part ∷ [] → drop number disks ≡ disk ∷ rest → is_err part.status ≡ false
       → DoesFirst facts Failed job disks number front before between → DoesShard facts Failed job shard disk part between after → DoesFirst facts Failed job disks next parts before after
   done_next disks number shard next front parts disk rest part before between after same more is there written so_far one =
-      let here : DoesShard facts Failed job number disk part between after = subst (λ (n : ℕ). DoesShard facts Failed job n disk part between after) (sym same) one in
-      subst (λ (n : ℕ). DoesFirst facts Failed job disks n parts before after) (sym more) (front, disk, part, between, is, at_place disks number disk rest there, written, so_far, here)
+      rw more (front, disk, part, between, is, at_place disks number disk rest there, written, so_far, rw (← same) at one)
 
   -- the writer failed at the next disk
   pub broken_off : (items disks : List D) (number shard count : ℕ) (disk : D) (rest : List D) (part : Ended E F) (ends : Ends E F) (before between after : Option (List ℕ))
       → items ≡ disks → number ≡ shard → drop number items ≡ disk ∷ rest → DoesFirst facts Failed job items number ends.parts.items before between → is_err part.status ≡ true
       → DoesShard facts Failed job shard disk part between after → ends.whole ≡ at_shard shard part → DoesEach facts Failed job count disks ends before after
   broken_off items disks number shard count disk rest part ends before between after all same there so_far failed one whole =
-      let first : DoesFirst facts Failed job disks shard ends.parts.items before between =
-      subst (λ (l : List D). DoesFirst facts Failed job l shard ends.parts.items before between) all
-      (subst (λ (n : ℕ). DoesFirst facts Failed job items n ends.parts.items before between) same so_far) in
-      let item : slice_get disks shard ≡ Some disk =
-      subst (λ (l : List D). slice_get l shard ≡ Some disk) all (subst (λ (n : ℕ). slice_get items n ≡ Some disk) same (at_place items number disk rest there)) in
-      inr (inl (shard, disk, part, between, first, item, failed, one, whole))
+      let item : slice_get items number ≡ Some disk = at_place items number disk rest there in
+      inr (inl (shard, disk, part, between, rw (same, all) at so_far, rw (same, all) at item, failed, one, whole))
 
   -- the job was done on all disks
   pub all_done : (items disks : List D) (number count worst : ℕ) (ends : Ends E F) (before after : Option (List ℕ)) → items ≡ disks → number ≡ count
       → DoesFirst facts Failed job items number ends.parts.items before after → worst ≡ worst_status 0 ends.parts.items → ends.whole ≡ ended_with worst
       → DoesEach facts Failed job count disks ends before after
-  all_done items disks number count worst ends before after all same so_far is whole =
-      let first : DoesFirst facts Failed job disks count ends.parts.items before after =
-      subst (λ (l : List D). DoesFirst facts Failed job l count ends.parts.items before after) all (subst (λ (n : ℕ). DoesFirst facts Failed job items n ends.parts.items before after) same so_far) in
-      inl (first, whole ∙ ap ended_with is)
+  all_done items disks number count worst ends before after all same so_far is whole = inl (rw (same, all) at so_far, whole ∙ ap ended_with is)
 
 -- a device has room for a mark
 pub long_enough : (shape : Shape) → mark_at + mark_len ≤ device_size shape
@@ -81,27 +68,19 @@ long_enough shape = omega arith
 -- a job that is done was not refused
 pub not_refused : {E F X : Type 0} (why : Option (Why E F)) (status : Result ℕ X) → done_by why status ≡ true → why ≡ None
 not_refused None status done = refl
-not_refused (Some why) (Ok status) done = absurd (cc)
-not_refused (Some why) (Err error) done = absurd (cc)
+not_refused (Some why) status done = absurd (cc)
 
 module _ {D E F : Type 0} (facts : Ghosts D F) (shape : Shape) (ended : Ended E F) (none : ended.why ≡ None) where
   -- a disk that was formatted has the length of its geometry
-  room_unmarked : (old disk : D) (before after : Option (List ℕ)) → FormatsUnmarked facts shape old disk ended before after → mark_at + mark_len ≤ size (facts.content disk)
-  room_unmarked old disk before after (inl (unmarked, marks, inl done)) = omega (arith, done.0, long_enough shape)
-  room_unmarked old disk before after (inl (unmarked, marks, inr (error, cause, refused))) = absurd (let is = refused.0 in cc)
-  room_unmarked old disk before after (inr (fault, gave, refused)) = absurd (let is = refused.0 in cc)
-
-  room_sized : (Resized : D → ℕ → D → Type 0) (NotResized : D → ℕ → E → Type 0) (found disk : D) (before after : Option (List ℕ))
-      → FormatsSized facts Resized NotResized shape found (Some disk) ended before after → mark_at + mark_len ≤ size (facts.content disk)
-  room_sized Resized NotResized found disk before after (inl (error, not, given, refused)) = absurd (let is = refused.0 in cc)
-  room_sized Resized NotResized found disk before after (inr (sized, resized, fits, formats)) = room_unmarked sized disk before after formats
-
   by_overwritten : (Resized : D → ℕ → D → Type 0) (NotResized : D → ℕ → E → Type 0) (Told : Urgent → Type 0) (Quiet : Type 0) (found disk : D) (before after : Option (List ℕ))
       (result : Result (Option HeldStore) (Why E F))
       → MatchResult result (λ store. TellsStore Told Quiet store × FormatsSized facts Resized NotResized shape found (Some disk) ended before after)
       (λ why. Quiet × (Some disk ≡ Some found) × Refuses why ended before after)
       → mark_at + mark_len ≤ size (facts.content disk)
-  by_overwritten Resized NotResized Told Quiet found disk before after (Ok store) formats = room_sized Resized NotResized found disk before after formats.1
+  by_overwritten Resized NotResized Told Quiet found disk before after (Ok store) (tells, inr (sized, resized, fits, inl (unmarked, marks, inl done))) = omega (arith, done.0, long_enough shape)
+  by_overwritten Resized NotResized Told Quiet found disk before after (Ok store) (tells, inr (sized, resized, fits, inl (unmarked, marks, inr refuses))) = absurd (let is = refuses.2.0 in cc)
+  by_overwritten Resized NotResized Told Quiet found disk before after (Ok store) (tells, inr (sized, resized, fits, inr refuses)) = absurd (let is = refuses.2.0 in cc)
+  by_overwritten Resized NotResized Told Quiet found disk before after (Ok store) (tells, inl refuses) = absurd (let is = refuses.3.0 in cc)
   by_overwritten Resized NotResized Told Quiet found disk before after (Err why) refuses = absurd (let is = refuses.2.0 in cc)
 
 -- the disk of a file that was formatted has room for a mark
@@ -130,8 +109,7 @@ module _ {S D E F N : Type 0} (facts : Ghosts D F) (disks : SourceOf S D E F) (s
       → MakesShard facts disks source told file numbers options count set shard mid new disk between after
       → MakesShards facts disks source told file numbers options count set (shard + 1) old new made before after
   made_more shard old mid new front made disk before between after is so_far one =
-      let next : suc shard ≡ shard + 1 = omega arith in
-      subst (λ (n : ℕ). MakesShards facts disks source told file numbers options count set n old new made before after) next (front, disk, mid, between, is, so_far, one)
+      let next : shard + 1 ≡ suc shard = omega arith in rw next (front, disk, mid, between, is, so_far, one)
 
 -- ---- refusals of background work
 

@@ -1,7 +1,5 @@
 -- The stops in words.
-use Rattle.silt_jobs.proofs.Common.{◌≡◌, ◌≢◌, List, [], ◌∷◌, ℕ, None, refl, ap, ◌∙◌}
-use Rattle.silt_jobs.specs.Common.{words_of}
-use Rattle.silt_wire.proofs.Cuts.{words_of-some}
+use Rattle.silt_jobs.proofs.Common.{◌≡◌, ◌≢◌, List, [], ◌∷◌, ℕ, None, refl, ap, ◌∙◌, words_of, words_of-some}
 use Rattle.silt_jobs.specs.Stops.{stop_of_words, reported_stop}
 
 -- one word is no stop
@@ -28,8 +26,7 @@ stop_of_words-many word k fill (next ∷ more) some = refl
 
 pub stop-many : (text word rest k fill last next : List ℕ) → words_of text ≡ word ∷ words_of rest → words_of rest ≡ k ∷ words_of fill
     → words_of fill ≡ last ∷ words_of next → stop_of_words (words_of text) ≡ None
-stop-many text word rest k fill last next words more most =
-    ap stop_of_words (words ∙ ap (λ parts. word ∷ parts) (more ∙ ap (λ parts. k ∷ parts) most)) ∙ stop_of_words-many word k last (words_of next) (words_of-some next)
+stop-many text word rest k fill last next words more most = cc (words, more, most, stop_of_words-many word k last (words_of next) (words_of-some next))
 
 -- the stop in a line's words, by their number
 pub ruleset stop_steps = (stop-one, stop-two, stop-many)

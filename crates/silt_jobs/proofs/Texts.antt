@@ -1,11 +1,8 @@
 -- The texts of two parts of a script are the text of both.
-use Rattle.silt_jobs.proofs.Common.{◌≡◌, ◌+◌, ◌<◌, ◌≤◌, take, get_or, ℕ, List, [], ◌∷◌, ◌++◌, length, refl, sym, ap, ◌∙◌, append_assoc, subst, arith, Option, take_more, Appends}
-use Rattle.silt_jobs.proofs.Common.{LinePlace, Appends-append, marks_text, place_past, start}
 use Rattle.std.proofs.lemmas.List.{append-nil}
-use Rattle.silt_jobs.specs.Common.{LifeReply}
+use Rattle.silt_jobs.proofs.Common.{◌≡◌, ◌+◌, ◌<◌, ◌≤◌, take, get_or, ℕ, List, [], ◌∷◌, ◌++◌, length, refl, sym, ap, ◌∙◌, append_assoc, arith, Option, take_more}
+use Rattle.silt_jobs.proofs.Common.{Appends, LinePlace, Appends-append, marks_text, place_past, start, LifeReply, mark_text, place_after}
 use Rattle.silt_jobs.specs.declared.jobs.script_lines.Mark.{Mark}
-use Rattle.silt_jobs.specs.declared.jobs.script_lines.Mark.TheVariants.{Event, Refused, Stop}
-use Rattle.silt_jobs.specs.Scripts.{mark_text, place_after}
 
 place_past-append : (place : LinePlace) (xs ys : List Mark) → place_past place (xs ++ ys) ≡ place_past (place_past place xs) ys
 place_past-append place [] ys = refl
@@ -15,36 +12,33 @@ marks_text-append : {F : Type 0} (lives : List (LifeReply F)) (place : LinePlace
     → marks_text lives place (xs ++ ys) ≡ marks_text lives place xs ++ marks_text lives (place_past place xs) ys
 marks_text-append lives place [] ys = refl
 marks_text-append lives place (x ∷ xs) ys =
-    ap (λ text. mark_text lives place x ++ text) (marks_text-append lives (place_after place x) xs ys)
-    ∙ sym (append_assoc (mark_text lives place x) (marks_text lives (place_after place x) xs) (marks_text lives (place_past (place_after place x) xs) ys))
+    cc (
+      marks_text-append lives (place_after place x) xs ys,
+      append_assoc (mark_text lives place x) (marks_text lives (place_after place x) xs) (marks_text lives (place_past (place_after place x) xs) ys),
+    )
 
 -- one line more
 pub place_past-more : (place : LinePlace) (marks : List Mark) (i : ℕ) (mark : Mark) → i < length marks
     → place_past place (take (i + 1) marks) ≡ place_after (place_past place (take i marks)) (get_or marks i mark)
-place_past-more place marks i mark lt = ap (place_past place) (take_more marks i mark lt) ∙ place_past-append place (take i marks) (get_or marks i mark ∷ [])
+place_past-more place marks i mark lt = cc (take_more marks i mark lt, place_past-append place (take i marks) (get_or marks i mark ∷ []))
 
 pub marks_text-more : {F : Type 0} (lives : List (LifeReply F)) (place : LinePlace) (marks : List Mark) (i : ℕ) (mark : Mark) → i < length marks
     → marks_text lives place (take (i + 1) marks) ≡ marks_text lives place (take i marks) ++ mark_text lives (place_past place (take i marks)) (get_or marks i mark)
 marks_text-more lives place marks i mark lt =
-    ap (marks_text lives place) (take_more marks i mark lt)
-    ∙ marks_text-append lives place (take i marks) (get_or marks i mark ∷ [])
-    ∙ ap (λ text. marks_text lives place (take i marks) ++ text) (append-nil (mark_text lives (place_past place (take i marks)) (get_or marks i mark)))
+    cc (take_more marks i mark lt, marks_text-append lives place (take i marks) (get_or marks i mark ∷ []), append-nil (mark_text lives (place_past place (take i marks)) (get_or marks i mark)))
 
 -- what was written of a script, and one line more
 pub written-more : {F : Type 0} (lives : List (LifeReply F)) (marks : List Mark) (i : ℕ) (mark : Mark) (place : LinePlace) (opening : List ℕ) (w v u : Option (List ℕ))
     → i < length marks → place ≡ place_past start (take i marks)
     → Appends w v (opening ++ marks_text lives start (take i marks)) → Appends v u (mark_text lives place (get_or marks i mark)) → Appends w u (opening ++ marks_text lives start (take (i + 1) marks))
 written-more lives marks i mark place opening w v u lt at h k =
-    let before = marks_text lives start (take i marks) in
-    let here = subst (λ (p : LinePlace). Appends v u (mark_text lives p (get_or marks i mark))) at k in
-    let text = append_assoc opening before (mark_text lives (place_past start (take i marks)) (get_or marks i mark)) ∙ ap (λ z. opening ++ z) (sym (marks_text-more lives start marks i mark lt)) in
-    subst (λ z. Appends w u z) text (Appends-append w v u _ _ h here)
+    let text : (opening ++ marks_text lives start (take i marks)) ++ mark_text lives place (get_or marks i mark) ≡ opening ++ marks_text lives start (take (i + 1) marks) =
+    cc (append_assoc opening (marks_text lives start (take i marks)) (mark_text lives place (get_or marks i mark)), marks_text-more lives start marks i mark lt) in
+    rw text at (Appends-append w v u _ _ h k)
 
 -- a place is no further on than its line
 pub place_after-within : (place : LinePlace) (mark : Mark) (n : ℕ) → place.life ≤ n → place.reply ≤ n → ((place_after place mark).life ≤ n + 1) × ((place_after place mark).reply ≤ n + 1)
-place_after-within place Event n life reply = (omega (arith, life), omega (arith, reply))
-place_after-within place (Refused fault) n life reply = (omega (arith, life), omega (arith, reply))
-place_after-within place Stop n life reply = (omega (arith, life), omega arith)
+place_after-within place mark n life reply = grind arith
 
 -- the place after one line more
 pub place-next : (marks : List Mark) (i : ℕ) (mark : Mark) (place next : LinePlace) → i < length marks → next ≡ place_after place (get_or marks i mark)

@@ -1,10 +1,10 @@
 -- Background work between lines, and all of it at once.
-use Rattle.std.specs.Prelude.{◌≡◌, ◌≢◌, ◌⊎◌, ◌+◌, ◌<◌, ◌≤◌, ◌-◌, ◌^◌, ◌||◌, ℕ, Bool, true, false, cond, IsTrue, All, List, [], ◌∷◌, ◌++◌, length, Option, Some, None, Result, Ok, Err, option_map}
+use Rattle.std.specs.Prelude.{◌≡◌, ◌≢◌, ◌⊎◌, ◌+◌, ◌<◌, ◌≤◌, ◌-◌, ◌^◌, ◌||◌, ℕ, Bool, true, false, cond, IsTrue, All, List, [], ◌∷◌, ◌++◌, length, Option, Some, None}
+use Rattle.std.specs.Prelude.{Result, Ok, Err, option_map}
 use Rattle.silt_jobs.specs.Common.{Ghosts, PlainReply, plain_refusal, Event, Admin, AdminReply, Convert, Merge, Idle, Waiting, Refusal, NoRoom, Spent, Reply, Refused}
-use Rattle.silt_jobs.specs.Common.{AdministersCore, CoreState, Does, DoesPlain, awaits_region, convert_due, is_convert, is_merge, is_refused, wants_convert}
+use Rattle.silt_jobs.specs.Common.{AdministersCore, CoreState, Does, DoesPlain, awaits_region, convert_due, is_convert, is_merge, is_refused, wants_convert, Steps}
 use Rattle.silt_event.specs.declared.progress.Progress.{Progress}
 use Rattle.silt_store_set.specs.CoreState.{may_merge, wants_merge}
-use Rattle.silt_jobs.specs.declared.jobs.background_work.Steps.{Steps}
 
 -- a refusal without its fault
 abbrev pub PlainRefusal : Type 0

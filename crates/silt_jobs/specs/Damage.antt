@@ -1,7 +1,6 @@
 -- The positions of the parts of a disk.
 use Rattle.std.specs.Prelude.{◌≡◌, ◌⊎◌, ◌+◌, ◌*◌, ℕ, nat_lt, if◌then◌else◌, IsTrue, Option, Some, None, Ok, Err}
-use Rattle.silt_jobs.specs.Common.{Content, GaveAny, size, header_of, Shape, Ghosts, shape_found}
-use Rattle.silt_disk.specs.Layout.{bodies_at, entry_len, hash_at, row_len, slot_at, sorted_at}
+use Rattle.silt_jobs.specs.Common.{Content, GaveAny, size, header_of, Shape, Ghosts, shape_found, bodies_at, entry_len, hash_at, row_len, slot_at, sorted_at}
 use Rattle.silt_event.specs.declared.damage.Finding.{Finding}
 use Rattle.silt_event.specs.declared.place.Place.{Place}
 use Rattle.silt_event.specs.declared.place.Place.TheVariants.{Header, Length, Slot, NoSlot, Log, Hash, HashDigest, Sorted, SortedDigest, Charge}

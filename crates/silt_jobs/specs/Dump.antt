@@ -1,13 +1,10 @@
 -- The output of a dump.
 use Rattle.std.specs.Prelude.{◌≡◌, ◌⊎◌, ℕ, IsTrue, true, List, ◌++◌, Option, Some, None, Result, Ok, Err, codes, flat_map, is_err}
-use Rattle.std.specs.Io.KnownBytes.{Appends}
+use Rattle.silt_jobs.specs.Common.{Appends, GaveAny, AreFirstEntries, EndsEarly, Ghosts, Key, image_map, refusal_of_opening, OpenError, AreInOrder, AreOfMap, Ended}
 use Rattle.hex.specs.Hex.{encode_lower}
-use Rattle.silt_jobs.specs.Common.{GaveAny, AreFirstEntries, EndsEarly, Ghosts, Key, image_map, refusal_of_opening, OpenError}
-use Rattle.silt_dump.specs.Order.{AreInOrder, AreOfMap}
 use Rattle.silt_jobs.specs.Ended.{IsDone, RefusesSo}
 use Rattle.silt_jobs.specs.Jobs.{IsBad}
 use Rattle.silt_jobs.specs.Openings.{OnDisk}
-use Rattle.silt_jobs.specs.declared.people.ended.Ended.{Ended}
 
 -- the line that puts this value at this key
 abbrev pub put_line : Key → List ℕ → List ℕ

@@ -1,17 +1,12 @@
 -- How a job ended, and what it wrote.
 use Rattle.std.specs.Prelude.{◌≡◌, ℕ, IfOk, List, [], Option, Some, None, codes}
-use Rattle.std.specs.Io.KnownBytes.{Appends}
 use Rattle.std.specs.Result.{result_unwrap_or}
-use Rattle.silt_jobs.specs.Common.{Refusal}
+use Rattle.silt_jobs.specs.Common.{Appends, Refusal, Ended, Why, NoDisk, Holds, FewRegions, OutOfLimits, NoPlan, NotDue, NoJob, Failures}
 use Rattle.silt_event.specs.declared.reply.Reply.TheVariants.{Refused as RefusedReply}
-use Rattle.silt_jobs.specs.Scripts.{reply_line}
-use Rattle.silt_jobs.specs.declared.people.ended.Ended.{Ended}
 use Rattle.silt_jobs.specs.declared.people.ended.Ends.{Ends}
-use Rattle.silt_jobs.specs.declared.people.ended.Why.{Why}
-use Rattle.silt_jobs.specs.declared.people.ended.Why.TheVariants.{NoDisk, Refused, Holds, IsStream, FewRegions, ShortValues, OutOfLimits, NoPlan, NoSetPlan}
-use Rattle.silt_jobs.specs.declared.people.ended.Why.TheVariants.{NotListening, NoReply, NotAsked, NoRandom, NotDue, NoJob}
+use Rattle.silt_jobs.specs.declared.people.ended.Why.TheVariants.{Refused, IsStream, ShortValues, NotListening, NoReply, NotAsked, NoRandom}
 use Rattle.silt_jobs.specs.declared.people.failure.Failure.{Failure}
-use Rattle.silt_jobs.specs.declared.people.failures.Failures.{Failures}
+use Rattle.silt_jobs.specs.Scripts.{reply_line}
 
 -- no call failed
 abbrev pub none_failed : Failures
@@ -31,8 +26,7 @@ module _ {E F : Type 0} where
   why_line (FewRegions hashes) = codes "refused 2 BadGeometry\n"
   why_line ShortValues = codes "refused 2 BadGeometry\n"
   why_line (OutOfLimits numbers) = codes "refused 2 BadGeometry\n"
-  why_line (NoPlan request) = codes "no plan\n"
-  why_line (NoSetPlan shards request) = codes "no plan\n"
+  why_line (NoPlan shards request) = codes "no plan\n"
   why_line (NotListening socket error) = codes "network fault\n"
   why_line (NoReply socket error) = codes "network fault\n"
   why_line NotAsked = codes "network fault\n"

@@ -1,19 +1,12 @@
 -- What the jobs on the disk of a path do.
 use Rattle.std.specs.Prelude.{◌≡◌, ◌⊎◌, ℕ, Bool, true, false, List, MatchResult, Option, Some, None, Result}
-use Rattle.std.specs.Option.{IsSomeAnd}
-use Rattle.silt_jobs.specs.Common.{GaveAny, LeavesOnly, size, InLimits, Shape, device_size, Ghosts, marking_of, Says, Unmarked, CoreState, Opens, Numbers, RunOptions}
-use Rattle.silt_event.specs.declared.refusal.Refusal.TheVariants.{Device}
+use Rattle.silt_jobs.specs.Common.{IsSomeAnd, GaveAny, LeavesOnly, size, InLimits, Shape, device_size, Ghosts, marking_of, Says, Unmarked, CoreState, Opens, Numbers}
+use Rattle.silt_jobs.specs.Common.{RunOptions, Device, Ended, OutOfLimits, Failures, Holding, StreamError, Tally, Urgent}
+use Rattle.silt_jobs.specs.declared.people.ended.Why.TheVariants.{Refused}
 use Rattle.silt_jobs.specs.Ended.{Refuses}
 use Rattle.silt_jobs.specs.HeldData.{FindsData, TellsStore, overwritten}
 use Rattle.silt_jobs.specs.Jobs.{Checks, Formats, RunsOpened, TendsOpened, shape_asked}
 use Rattle.silt_jobs.specs.Openings.{IsUnopened, OnDisk, RefusesDisk, RefusesFor, RefusesNoDisk}
-use Rattle.silt_jobs.specs.declared.people.ended.Ended.{Ended}
-use Rattle.silt_jobs.specs.declared.people.ended.Why.TheVariants.{OutOfLimits, Refused}
-use Rattle.silt_jobs.specs.declared.people.failures.Failures.{Failures}
-use Rattle.silt_jobs.specs.declared.jobs.held_data.Holding.{Holding}
-use Rattle.silt_jobs.specs.declared.people.streams.StreamError.{StreamError}
-use Rattle.silt_jobs.specs.declared.people.tally.Tally.{Tally}
-use Rattle.silt_jobs.specs.declared.people.urgent.Urgent.{Urgent}
 
 module _ {D F : Type 0} (facts : Ghosts D F) where
   -- the store on a disk was opened, this was done with it, and the disk is returned

@@ -1,17 +1,12 @@
 -- The data on a disk before a format, and whether it may be overwritten.
-use Rattle.std.specs.Prelude.{◌≡◌, ℕ, ◌==◌, nat_le, Bool, true, false, ◌&&◌, ◌||◌, IsTrue, IfSome, if◌then◌else◌, List, Option, Some, None, Result, Ok, Err, slice_range}
-use Rattle.std.specs.Str.{bytes_eq}
-use Rattle.silt_jobs.specs.Common.{Content, GaveAny, size, header_of, Ghosts, Report, IsReported, IsFound, IsRefusedLook, OpenError}
-use Rattle.silt_disk.specs.Header.{header_len, magic}
-use Rattle.silt_event.specs.declared.refusal.Refusal.TheVariants.{Device}
-use Rattle.silt_jobs.specs.Damage.{HasShape}
-use Rattle.silt_jobs.specs.declared.people.ended.Why.{Why}
-use Rattle.silt_jobs.specs.declared.people.ended.Why.TheVariants.{Holds, Refused}
-use Rattle.silt_jobs.specs.declared.jobs.held_data.HeldStore.{HeldStore}
-use Rattle.silt_jobs.specs.declared.jobs.held_data.Holding.{Holding}
+use Rattle.std.specs.Prelude.{◌≡◌, ℕ, ◌==◌, nat_le, Bool, true, false, ◌&&◌, ◌||◌, IsTrue, IfSome, if◌then◌else◌, List, Option, Some, None, Result, Ok, Err}
+use Rattle.std.specs.Prelude.{slice_range}
+use Rattle.silt_jobs.specs.Common.{bytes_eq, Content, GaveAny, size, header_of, Ghosts, Report, IsReported, IsFound, IsRefusedLook, OpenError, header_len, magic}
+use Rattle.silt_jobs.specs.Common.{Device, Why, Holds, HeldStore, Holding, Urgent}
+use Rattle.silt_jobs.specs.declared.people.ended.Why.TheVariants.{Refused}
 use Rattle.silt_jobs.specs.declared.jobs.held_data.Holding.TheVariants.{Nothing, Store, Other}
-use Rattle.silt_jobs.specs.declared.people.urgent.Urgent.{Urgent}
 use Rattle.silt_jobs.specs.declared.people.urgent.Urgent.TheVariants.{Overwrites}
+use Rattle.silt_jobs.specs.Damage.{HasShape}
 
 -- whether these bytes after a header's commit byte belong to a store of this program: whole, damaged, or formatted in part
 abbrev pub has_magic : List ℕ → Bool

@@ -1,29 +1,19 @@
 -- What the jobs on a disk do, and what they write.
 use Rattle.std.specs.Prelude.{◌≡◌, ◌⊎◌, ◌&&◌, ◌<◌, ℕ, cond, IsTrue, IfNone, IfOk, IfSome, List, ◌++◌, MatchBool, Option, Some, None, Ok, codes}
-use Rattle.std.specs.Option.{IsSomeAnd}
-use Rattle.std.specs.FinMap.{empty}
-use Rattle.std.specs.Fmt.{decimal}
-use Rattle.std.specs.Io.KnownBytes.{Appends}
-use Rattle.silt_jobs.specs.Common.{GaveAny, LeavesOnly, size, InLimits, Shape, device_size, Ghosts, Report, FormatCause, IsReported, IsFound, IsRefusedLook, FormatError, OpenError}
-use Rattle.silt_jobs.specs.Common.{StandsFor, AnswersQuery, CoreState, DoesPlain, AdministersCore, refusal_of_formatting, refusal_of_opening, Refusal, Refused, Ends, SessionEnd}
-use Rattle.silt_jobs.specs.Common.{Numbers, RunOptions}
-use Rattle.silt_wire.specs.Reports.{report_text}
+use Rattle.silt_jobs.specs.Common.{IsSomeAnd, empty, decimal, Appends, GaveAny, LeavesOnly, size, InLimits, Shape, device_size, Ghosts, Report, FormatCause}
+use Rattle.silt_jobs.specs.Common.{IsReported, IsFound, IsRefusedLook, FormatError, OpenError, StandsFor, AnswersQuery, CoreState, DoesPlain, AdministersCore}
+use Rattle.silt_jobs.specs.Common.{refusal_of_formatting, refusal_of_opening, Refusal, Refused, Ends, SessionEnd, Numbers, RunOptions, report_text, Steps, Ended}
+use Rattle.silt_jobs.specs.Common.{FewRegions, OutOfLimits, Failures, HeldStore, StreamError, Tally}
 use Rattle.silt_wire.specs.declared.sessions.SessionEnd.TheVariants.{End, NoMemory, ReadFault, WriteFault}
+use Rattle.silt_jobs.specs.declared.people.ended.Found.{Found}
+use Rattle.silt_jobs.specs.declared.people.ended.Found.TheVariants.{Store, Session as Ran}
+use Rattle.silt_jobs.specs.declared.jobs.disk_jobs.EndedSession.{EndedSession}
+use Rattle.silt_jobs.specs.declared.people.ended.Why.TheVariants.{Refused as RefusedSo}
 use Rattle.silt_jobs.specs.BackgroundWork.{AdministersTended, PlainRefusal, StopsAt, TendsAll, TendsThenDoes, due_at_once}
 use Rattle.silt_jobs.specs.Damage.{HasShape, LacksShape}
 use Rattle.silt_jobs.specs.Ended.{IsDone, Refuses, RefusesSo, none_failed}
 use Rattle.silt_jobs.specs.Scripts.{AnswersScript, reply_line}
 use Rattle.silt_jobs.specs.Tally.{has_refusals}
-use Rattle.silt_jobs.specs.declared.jobs.background_work.Steps.{Steps}
-use Rattle.silt_jobs.specs.declared.people.ended.Ended.{Ended}
-use Rattle.silt_jobs.specs.declared.people.ended.Found.{Found}
-use Rattle.silt_jobs.specs.declared.people.ended.Found.TheVariants.{Store, Session as Ran}
-use Rattle.silt_jobs.specs.declared.jobs.disk_jobs.EndedSession.{EndedSession}
-use Rattle.silt_jobs.specs.declared.people.ended.Why.TheVariants.{FewRegions, OutOfLimits, Refused as RefusedSo}
-use Rattle.silt_jobs.specs.declared.people.failures.Failures.{Failures}
-use Rattle.silt_jobs.specs.declared.jobs.held_data.HeldStore.{HeldStore}
-use Rattle.silt_jobs.specs.declared.people.streams.StreamError.{StreamError}
-use Rattle.silt_jobs.specs.declared.people.tally.Tally.{Tally}
 
 -- the length of a device that was formatted, in bytes
 abbrev pub formatted_line : ℕ → List ℕ

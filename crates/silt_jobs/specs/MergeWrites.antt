@@ -1,24 +1,23 @@
 -- How few entries merging can write for each row.
-use Rattle.std.specs.Prelude.{ℕ, ◌+◌, ◌-◌, ◌*◌, ◌/◌, max, nat_le, ◌&&◌, Bool, true, List, [], ◌∷◌, Option, Some, None, if◌then◌else◌}
-use Rattle.silt_jobs.specs.Plans.{bucket_counts, memory_of, needs_buckets, rows_between_merges}
+use Rattle.std.specs.Prelude.{ℕ, ◌+◌, ◌-◌, ◌*◌, ◌/◌, max, nat_le, ◌&&◌, Bool, true, Option, Some, None}
+use Rattle.std.specs.Option.{option_map_or, unwrap_or}
+use Rattle.silt_jobs.specs.Plans.{bucket_counts, first_with, memory_of, needs_buckets, rows_between_merges}
 
--- the first of these bucket counts of which half are too few
-unfoldable pub first_needed : ℕ → ℕ → List ℕ → ℕ
-first_needed most keys [] = 2
-first_needed most keys (buckets ∷ more) = if needs_buckets most keys buckets then buckets else first_needed most keys more
+-- the most buckets of which half are too few
+abbrev pub first_needed : ℕ → ℕ → ℕ
+first_needed most keys = unwrap_or (first_with (needs_buckets most keys) bucket_counts) 2
 
 -- S has room for the keys, and for all rows of the logs and hash regions of this many buckets
 abbrev pub has_room : ℕ → ℕ → Bool
 has_room keys buckets = nat_le (keys + 77 * (buckets / 2)) 16777216
 
--- the rows between two merges with the first of these bucket counts that has room for the keys
-unfoldable pub most_rows : ℕ → List ℕ → ℕ
-most_rows keys [] = 0
-most_rows keys (buckets ∷ more) = if has_room keys buckets then rows_between_merges buckets else most_rows keys more
+-- the rows between two merges with the most buckets that have room for the keys, or none
+abbrev pub most_rows : ℕ → ℕ
+most_rows keys = option_map_or rows_between_merges (first_with (has_room keys) bucket_counts) 0
 
 -- The fewest entries for each row with which there is a plan for so many keys: those of the most buckets, rounded up, and at least one.
 abbrev pub least_writes : ℕ → ℕ
-least_writes keys = (keys - 1) / max (most_rows keys bucket_counts) 1 + 1
+least_writes keys = (keys - 1) / max (most_rows keys) 1 + 1
 
 -- some plan for so many keys writes no more than a request allows, if it has a bound
 abbrev pub can_write : Option ℕ → ℕ → Bool
@@ -32,4 +31,4 @@ is_plannable merge_writes keys = nat_le keys 16777139 && can_write merge_writes 
 -- the least memory of a plan that writes no more than that
 abbrev pub memory_needed : Option ℕ → ℕ → ℕ
 memory_needed None keys = memory_of keys 2
-memory_needed (Some most) keys = memory_of keys (first_needed most keys bucket_counts)
+memory_needed (Some most) keys = memory_of keys (first_needed most keys)

@@ -1,9 +1,9 @@
 -- New stores on disks in memory.
 use Rattle.std.specs.Prelude.{◌≡◌, List}
-use Rattle.std.specs.FinMap.{empty}
-use Rattle.silt_jobs.specs.Common.{GaveAny, LeavesOnly, size, Shape, device_size, memory_content, memory_gave, Stop, MemDisk, MemFault, StandsFor, Refusal}
+use Rattle.silt_jobs.specs.Common.{empty, GaveAny, LeavesOnly, size, Shape, device_size, memory_content, memory_gave, Stop, MemDisk, MemFault, StandsFor, Refusal}
+use Rattle.silt_jobs.specs.Common.{Device}
 use Rattle.silt_device.specs.Lives.{next_life}
-use Rattle.silt_event.specs.declared.refusal.Refusal.TheVariants.{Device, NoMemory}
+use Rattle.silt_event.specs.declared.refusal.Refusal.TheVariants.{NoMemory}
 
 -- the disk has the length of this shape, each possible crash image is an empty store of it, and these stops end the disk's lives
 pub record IsNewStore (shape : Shape) (stops : List Stop) (disk : MemDisk) : Type 0 where

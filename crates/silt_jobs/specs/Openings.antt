@@ -1,15 +1,10 @@
 -- When there is no opened store.
 use Rattle.std.specs.Prelude.{◌≡◌, ◌⊎◌, ℕ, List, Option, None, Result, Ok, Err}
-use Rattle.std.specs.Option.{IsSomeAnd}
-use Rattle.silt_jobs.specs.Common.{Content, Ghosts, Refusal, SaysSo, SetCause, Unmarked}
-use Rattle.silt_recovery.specs.Opening.{LeavesNoOther}
-use Rattle.silt_shards.specs.Opening.{IsMarked}
+use Rattle.silt_jobs.specs.Common.{IsSomeAnd, Content, Ghosts, Refusal, SaysSo, SetCause, Unmarked, LeavesNoOther, IsMarked, Ended, Why, NoDisk, NotDue}
 use Rattle.silt_shards.specs.declared.fault.SetCause.TheVariants.{NotDue as IsNotDue, Refused as IsRefusedSo}
 use Rattle.silt_store_set.specs.Opening.{OpeningCause}
+use Rattle.silt_jobs.specs.declared.people.ended.Why.TheVariants.{Refused}
 use Rattle.silt_jobs.specs.Ended.{Refuses}
-use Rattle.silt_jobs.specs.declared.people.ended.Ended.{Ended}
-use Rattle.silt_jobs.specs.declared.people.ended.Why.{Why}
-use Rattle.silt_jobs.specs.declared.people.ended.Why.TheVariants.{NoDisk, NotDue, Refused}
 
 -- why a job is refused, by what is wrong with a file
 abbrev pub IsWhy : {E F : Type 0} → SetCause F → Why E F → Type 0

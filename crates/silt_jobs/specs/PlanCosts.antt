@@ -1,15 +1,9 @@
 -- What a planned store costs in merging, and in memory at rest.
 use Rattle.std.specs.Prelude.{◌≡◌, ℕ, ◌+◌, ◌*◌, ◌/◌, List, max, Option, Some, None, is_some, if◌then◌else◌}
-use Rattle.silt_jobs.specs.Common.{Shape, device_size, PlanRequest}
+use Rattle.silt_jobs.specs.Common.{Shape, device_size, PlanRequest, Ended, Cost, NoPlan, PlanCost, Remedy, SeveralStores, Memory}
 use Rattle.silt_jobs.specs.Ended.{IsDone, Refuses}
 use Rattle.silt_jobs.specs.MergeWrites.{first_needed}
-use Rattle.silt_jobs.specs.Plans.{bucket_counts, memory_of, memory_planned, plan_text, rows_between_merges, shape_planned, writes_more}
-use Rattle.silt_jobs.specs.declared.people.ended.Ended.{Ended}
-use Rattle.silt_jobs.specs.declared.people.ended.Found.TheVariants.{Cost}
-use Rattle.silt_jobs.specs.declared.people.ended.Why.TheVariants.{NoPlan}
-use Rattle.silt_jobs.specs.declared.plans.plan_cost.PlanCost.{PlanCost}
-use Rattle.silt_jobs.specs.declared.plans.plan_cost.Remedy.{Remedy}
-use Rattle.silt_jobs.specs.declared.plans.plan_cost.Remedy.TheVariants.{SeveralStores, Memory}
+use Rattle.silt_jobs.specs.Plans.{memory_of, plan_text, rows_between_merges, shape_planned, writes_more}
 
 -- the entries for each row in tenths, the nearest ones; half a tenth counts as one
 abbrev pub tenths_written : ℕ → ℕ → ℕ
@@ -22,7 +16,7 @@ at_rest keys buckets = max ((4 * keys + 4) / 5) 18504 + 24 * buckets + 7 * (buck
 
 -- the bytes of memory of a plan with which merging writes at most this many entries for each row
 abbrev pub memory_for : ℕ → ℕ → ℕ
-memory_for most keys = memory_of keys (first_needed most keys bucket_counts)
+memory_for most keys = memory_of keys (first_needed most keys)
 
 -- The memory with which merging writes at most ten entries for each row, or at most twenty if the most buckets write more than ten.
 abbrev pub more_memory : ℕ → Remedy
@@ -48,5 +42,5 @@ EndsPlan s disk memory cost ended before after = (ended.found ≡ Some (Cost cos
 -- the plan of this many buckets was written, with its cost, or the line says that there is none
 abbrev pub Plans : {E F : Type 0} → PlanRequest → Option ℕ → Ended E F → Option (List ℕ) → Option (List ℕ) → Type 0
 Plans r (Some buckets) ended before after =
-    EndsPlan (shape_planned r buckets) (device_size (shape_planned r buckets)) (memory_planned r buckets) (cost_of r buckets) ended before after
-Plans r None ended before after = Refuses (NoPlan r) ended before after
+    EndsPlan (shape_planned r buckets) (device_size (shape_planned r buckets)) (memory_of r.keys buckets) (cost_of r buckets) ended before after
+Plans r None ended before after = Refuses (NoPlan None r) ended before after

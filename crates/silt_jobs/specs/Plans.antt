@@ -1,9 +1,7 @@
 -- The six numbers of a planned store for a number of keys.
-use Rattle.std.specs.Prelude.{ℕ, ◌+◌, ◌*◌, ◌/◌, ◌==◌, nat_le, nat_lt, not, ◌&&◌, ◌||◌, Bool, true, List, [], ◌∷◌, ◌++◌, Option, Some, None, if◌then◌else◌, codes, option_map}
-use Rattle.std.specs.Fmt.{decimal}
-use Rattle.std.specs.Option.{unwrap_or}
-use Rattle.silt_disk.specs.Header.{is_in_limits}
-use Rattle.silt_jobs.specs.Common.{Shape, PlanRequest}
+use Rattle.std.specs.Prelude.{ℕ, ◌+◌, ◌*◌, ◌/◌, ◌==◌, nat_le, nat_lt, not, ◌&&◌, ◌||◌, Bool, true, List, [], ◌∷◌, ◌++◌, Option, Some, None, if◌then◌else◌, codes}
+use Rattle.std.specs.Prelude.{option_map}
+use Rattle.silt_jobs.specs.Common.{decimal, unwrap_or, is_in_limits, Shape, PlanRequest}
 
 -- the bucket counts of a geometry, the greatest first
 abbrev pub bucket_counts : List ℕ
@@ -20,9 +18,6 @@ shape_planned r buckets =
 -- be reserved as it grows.
 abbrev pub memory_of : ℕ → ℕ → ℕ
 memory_of keys buckets = 1043 * buckets + 3 * keys + 55512
-
-abbrev pub memory_planned : PlanRequest → ℕ → ℕ
-memory_planned r buckets = memory_of r.keys buckets
 
 -- the bytes of memory fit under the limit, if there is one
 abbrev pub fits_memory : Option ℕ → ℕ → Bool
@@ -53,20 +48,24 @@ is_needed r buckets = needs_buckets (unwrap_or r.merge_writes 9) r.keys buckets
 -- this many buckets give numbers in their limits, fit the memory, and keep what merging writes within its limit
 abbrev pub is_possible : PlanRequest → ℕ → Bool
 is_possible r buckets =
-    is_in_limits (shape_planned r buckets) && (fits_memory r.memory (memory_planned r buckets) && fits_writes r.merge_writes r.keys buckets)
+    is_in_limits (shape_planned r buckets) && (fits_memory r.memory (memory_of r.keys buckets) && fits_writes r.merge_writes r.keys buckets)
 
 -- and they are needed
 abbrev pub is_planned : PlanRequest → ℕ → Bool
 is_planned r buckets = is_needed r buckets && is_possible r buckets
 
--- the first of these bucket counts that can be planned
-unfoldable pub first_planned : PlanRequest → List ℕ → Option ℕ
-first_planned r [] = None
-first_planned r (buckets ∷ more) = if is_planned r buckets then Some buckets else first_planned r more
+-- the first of these bucket counts that passes a test
+unfoldable pub first_with : (ℕ → Bool) → List ℕ → Option ℕ
+first_with test [] = None
+first_with test (buckets ∷ more) = if test buckets then Some buckets else first_with test more
 
--- its geometry
-abbrev pub geometry_planned : PlanRequest → List ℕ → Option Shape
-geometry_planned r counts = option_map (shape_planned r) (first_planned r counts)
+-- the most buckets that can be planned
+abbrev pub first_planned : PlanRequest → Option ℕ
+first_planned r = first_with (is_planned r) bucket_counts
+
+-- their geometry
+abbrev pub geometry_planned : PlanRequest → Option Shape
+geometry_planned r = option_map (shape_planned r) (first_planned r)
 
 -- a word and a number
 unfoldable pub number_after : List ℕ → ℕ → List ℕ

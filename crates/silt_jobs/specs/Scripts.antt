@@ -1,26 +1,22 @@
 -- The lines of a script, and its output.
 use Rattle.std.specs.Prelude.{Vec, ◌≡◌, ◌⊎◌, ◌+◌, ℕ, List, [], ◌∷◌, ◌++◌, All, Option, Some, None, Result, Ok, Err, MatchBool, codes}
-use Rattle.std.specs.FinMap.{empty}
 use Rattle.std.specs.List.{slice_get}
-use Rattle.std.specs.Io.KnownBytes.{Appends, Consumes, IsAtEnd}
 use Rattle.std.specs.declared.alloc.Global.{Global}
-use Rattle.silt_jobs.specs.Common.{InLimits, Shape, memory_content, memory_gave, Ghosts, MemDisk, MemFault, LifeReply, Refusal, Reply, Map, HasValueOf, LivesRun, LineFault}
-use Rattle.silt_jobs.specs.Common.{asked_by, is_blank, lines_after}
+use Rattle.silt_jobs.specs.Common.{empty, Appends, Consumes, IsAtEnd, InLimits, Shape, memory_content, memory_gave, Ghosts, MemDisk, MemFault, LifeReply, Refusal}
+use Rattle.silt_jobs.specs.Common.{Reply, Map, HasValueOf, LivesRun, LineFault, asked_by, is_blank, lines_after, BadGeometry, LivesHistory}
 use Rattle.silt_device.specs.Memory.{memory_failures, memory_syncs, memory_writes}
 use Rattle.silt_device.specs.declared.life.Stop.{Stop as StopOf}
 use Rattle.silt_event.specs.declared.event.Event.{Event as EventOf}
 use Rattle.silt_event.specs.declared.reply.LifeReply.TheVariants.{NotOpened, Opened}
-use Rattle.silt_event.specs.declared.refusal.Refusal.TheVariants.{BadGeometry}
 use Rattle.silt_event.specs.declared.reply.Reply.TheVariants.{Refused as RefusedReply}
-use Rattle.silt_event.specs.Events.{LivesHistory}
 use Rattle.silt_wire.specs.Replies.{fault_line, reply_text}
-use Rattle.silt_jobs.specs.Stops.{stop_of}
-use Rattle.silt_jobs.specs.NewStores.{IsNewStore, NewStoreCause}
 use Rattle.silt_jobs.specs.declared.jobs.transcript.LinePlace.{LinePlace}
 use Rattle.silt_jobs.specs.declared.jobs.script_lines.Mark.{Mark}
 use Rattle.silt_jobs.specs.declared.jobs.script_lines.Mark.TheVariants.{Event, Refused, Stop}
 use Rattle.silt_jobs.specs.declared.jobs.script_lines.Reading.{Reading}
 use Rattle.silt_jobs.specs.declared.jobs.script_lines.Script.{Script}
+use Rattle.silt_jobs.specs.Stops.{stop_of}
+use Rattle.silt_jobs.specs.NewStores.{IsNewStore, NewStoreCause}
 
 -- ---- what the lines are
 

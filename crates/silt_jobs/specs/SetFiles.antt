@@ -1,29 +1,19 @@
 -- What the jobs on the files of a set do.
-use Rattle.std.specs.Prelude.{◌≡◌, ◌⊎◌, ◌<◌, ◌≤◌, ℕ, zero, suc, Bool, true, false, IfOk, IfSome, List, [], ◌∷◌, ◌++◌, MatchBool, Option, Some, None, Result, Ok, codes, map, slice_get}
-use Rattle.std.specs.Fmt.{decimal}
-use Rattle.std.specs.Io.KnownBytes.{Appends}
-use Rattle.std.specs.List.{AllZip}
-use Rattle.std.specs.Option.{IsSomeAnd}
-use Rattle.silt_jobs.specs.Common.{GaveAny, LeavesOnly, Shape, Ghosts, Map, PlainReply, Event, StandsFor, marking_of, AreShards, IsShardCount, SetCause, AnswersQuery, Admin}
-use Rattle.silt_jobs.specs.Common.{AdminReply, CoreState, DoesPlain, Opens, AdministersCore, Ends, SessionEnd, FormatOptions, Numbers, RunOptions}
+use Rattle.std.specs.Prelude.{◌≡◌, ◌⊎◌, ◌<◌, ◌≤◌, ℕ, zero, suc, Bool, true, false, IfOk, IfSome, List, [], ◌∷◌, ◌++◌, MatchBool, Option, Some, None, Result, Ok}
+use Rattle.std.specs.Prelude.{codes, map, slice_get}
+use Rattle.silt_jobs.specs.Common.{decimal, Appends, AllZip, IsSomeAnd, GaveAny, LeavesOnly, Shape, Ghosts, Map, PlainReply, Event, StandsFor, marking_of, AreShards}
+use Rattle.silt_jobs.specs.Common.{IsShardCount, SetCause, AnswersQuery, Admin, AdminReply, CoreState, DoesPlain, Opens, AdministersCore, Ends, SessionEnd}
+use Rattle.silt_jobs.specs.Common.{FormatOptions, Numbers, RunOptions, Device, AreOfOneShape, IsRefusedSet, SetDoes, value_len_of, Marked, Ended, Shard, Why}
+use Rattle.silt_jobs.specs.Common.{FewRegions, NoDisk, NoJob, StreamError, Tally, Urgent}
 use Rattle.silt_device.specs.declared.source.DiskSource.{Ghosts as SourceOf}
-use Rattle.silt_event.specs.declared.refusal.Refusal.TheVariants.{Device, NoMemory as OutOfMemory}
-use Rattle.silt_shards.specs.Opening.{AreOfOneShape, IsRefusedSet}
-use Rattle.silt_shards.specs.Sets.{SetDoes, value_len_of}
-use Rattle.silt_shards.specs.declared.mark.Marking.TheVariants.{Marked}
+use Rattle.silt_event.specs.declared.refusal.Refusal.TheVariants.{NoMemory as OutOfMemory}
 use Rattle.silt_shards.specs.SetFacts.{AdministersSet}
+use Rattle.silt_jobs.specs.declared.people.ended.Why.TheVariants.{Refused}
 use Rattle.silt_jobs.specs.BackgroundWork.{AdministersTended, PlainRefusal, TendedState, TendsThenDoes}
 use Rattle.silt_jobs.specs.Ended.{Refuses, none_failed}
 use Rattle.silt_jobs.specs.Files.{FormatsFile, sized_by}
 use Rattle.silt_jobs.specs.Jobs.{EndsSo}
 use Rattle.silt_jobs.specs.Openings.{IsWhy}
-use Rattle.silt_jobs.specs.declared.people.ended.Ended.{Ended}
-use Rattle.silt_jobs.specs.declared.people.ended.Found.TheVariants.{Shard}
-use Rattle.silt_jobs.specs.declared.people.ended.Why.{Why}
-use Rattle.silt_jobs.specs.declared.people.ended.Why.TheVariants.{FewRegions, NoDisk, NoJob, Refused}
-use Rattle.silt_jobs.specs.declared.people.streams.StreamError.{StreamError}
-use Rattle.silt_jobs.specs.declared.people.tally.Tally.{Tally}
-use Rattle.silt_jobs.specs.declared.people.urgent.Urgent.{Urgent}
 
 -- the name of the file of a shard: that of the set, a dot, and the number of the shard
 abbrev pub shard_file : List ℕ → ℕ → List ℕ

@@ -1,24 +1,19 @@
 -- What the jobs on each file of a set do.
 use Rattle.std.specs.Prelude.{◌≡◌, ◌⊎◌, ℕ, zero, suc, max, Bool, true, false, is_err, List, [], ◌∷◌, ◌++◌, MatchOption, Option, Some, None, Ok, codes, slice_get}
-use Rattle.std.specs.Fmt.{decimal}
-use Rattle.std.specs.Io.KnownBytes.{Appends}
-use Rattle.silt_jobs.specs.Common.{Ghosts, AreShards, IsShardCount, SetCause}
+use Rattle.silt_jobs.specs.Common.{decimal, Appends, Ghosts, AreShards, IsShardCount, SetCause, IsRefusedUnopened, Ended, NoJob, Failures}
 use Rattle.silt_device.specs.declared.source.DiskSource.{Ghosts as SourceOf}
 use Rattle.silt_event.specs.declared.refusal.Refusal.TheVariants.{NoMemory as OutOfMemory}
-use Rattle.silt_shards.specs.Opening.{IsRefusedUnopened}
+use Rattle.silt_jobs.specs.declared.people.ended.Ends.{Ends}
+use Rattle.silt_jobs.specs.declared.people.ended.Why.TheVariants.{Refused}
+use Rattle.silt_jobs.specs.declared.jobs.set_jobs.NoSet.{NoSet}
+use Rattle.silt_jobs.specs.declared.jobs.set_jobs.ShardJob.{ShardJob}
+use Rattle.silt_jobs.specs.declared.jobs.set_jobs.ShardJob.TheVariants.{Check, Tend}
 use Rattle.silt_jobs.specs.Dump.{Dumps}
 use Rattle.silt_jobs.specs.Ended.{Refuses, exit_status, none_failed}
 use Rattle.silt_jobs.specs.Files.{TendsDisk}
 use Rattle.silt_jobs.specs.Jobs.{Checks}
 use Rattle.silt_jobs.specs.Openings.{IsWhy}
 use Rattle.silt_jobs.specs.SetFiles.{OpensFiles, OpensNot, RefusesAt, at_shard, is_done_so}
-use Rattle.silt_jobs.specs.declared.people.ended.Ended.{Ended}
-use Rattle.silt_jobs.specs.declared.people.ended.Ends.{Ends}
-use Rattle.silt_jobs.specs.declared.people.ended.Why.TheVariants.{NoJob, Refused}
-use Rattle.silt_jobs.specs.declared.people.failures.Failures.{Failures}
-use Rattle.silt_jobs.specs.declared.jobs.set_jobs.NoSet.{NoSet}
-use Rattle.silt_jobs.specs.declared.jobs.set_jobs.ShardJob.{ShardJob}
-use Rattle.silt_jobs.specs.declared.jobs.set_jobs.ShardJob.TheVariants.{Check, Tend}
 
 -- the line before what is written of a shard
 abbrev pub shard_line : ℕ → List ℕ

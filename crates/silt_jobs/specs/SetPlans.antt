@@ -1,15 +1,10 @@
 -- The plan of a set of shards.
 use Rattle.std.specs.Prelude.{◌⊎◌, ◌+◌, ◌-◌, ◌*◌, ◌/◌, ◌%◌, ◌^◌, ℕ, min, IsTrue, List, Option, Some, None, option_map}
-use Rattle.silt_jobs.specs.Common.{device_size, IsShardCount, PlanRequest}
+use Rattle.silt_jobs.specs.Common.{device_size, IsShardCount, PlanRequest, Ended, NoJob, NoPlan, PlanCost, Remedy, SeveralStores, Memory}
 use Rattle.silt_jobs.specs.Ended.{Refuses}
 use Rattle.silt_jobs.specs.MergeWrites.{is_plannable}
 use Rattle.silt_jobs.specs.PlanCosts.{EndsPlan, cost_of}
-use Rattle.silt_jobs.specs.Plans.{bucket_counts, first_planned, memory_planned, shape_planned}
-use Rattle.silt_jobs.specs.declared.people.ended.Ended.{Ended}
-use Rattle.silt_jobs.specs.declared.people.ended.Why.TheVariants.{NoJob, NoSetPlan}
-use Rattle.silt_jobs.specs.declared.plans.plan_cost.PlanCost.{PlanCost}
-use Rattle.silt_jobs.specs.declared.plans.plan_cost.Remedy.{Remedy}
-use Rattle.silt_jobs.specs.declared.plans.plan_cost.Remedy.TheVariants.{SeveralStores, Memory}
+use Rattle.silt_jobs.specs.Plans.{first_planned, memory_of, shape_planned}
 
 -- the keys of each shard if all have as many, rounded up
 abbrev pub even_share : ℕ → ℕ → ℕ
@@ -49,12 +44,12 @@ set_cost shards cost = record { keys = cost.keys; rows = cost.rows; at_rest = ti
 abbrev pub PlansShards : {E F : Type 0} → ℕ → PlanRequest → Option ℕ → Ended E F → Option (List ℕ) → Option (List ℕ) → Type 0
 PlansShards shards r (Some buckets) ended before after =
     let one = shard_request shards r in
-    EndsPlan (shape_planned one buckets) (times shards (device_size (shape_planned one buckets))) (times shards (memory_planned one buckets))
+    EndsPlan (shape_planned one buckets) (times shards (device_size (shape_planned one buckets))) (times shards (memory_of one.keys buckets))
     (set_cost shards (cost_of one buckets)) ended before after
-PlansShards shards r None ended before after = Refuses (NoSetPlan shards r) ended before after
+PlansShards shards r None ended before after = Refuses (NoPlan (Some shards) r) ended before after
 
 -- a set of so many shards was planned, or the number is that of none
 abbrev pub PlansSet : {E F : Type 0} → ℕ → PlanRequest → Ended E F → Option (List ℕ) → Option (List ℕ) → Type 0
 PlansSet shards r ended before after =
     ((¬ IsShardCount shards) × Refuses NoJob ended before after)
-    ⊎ (IsShardCount shards × PlansShards shards r (first_planned (shard_request shards r) bucket_counts) ended before after)
+    ⊎ (IsShardCount shards × PlansShards shards r (first_planned (shard_request shards r)) ended before after)

@@ -1,11 +1,9 @@
 -- Stop lines. A stop is a crash at a chosen device call.
 use Rattle.std.specs.Prelude.{ℕ, nat_lt, if◌then◌else◌, List, [], ◌∷◌, length, codes, Option, Some, None}
-use Rattle.std.specs.Str.{bytes_eq}
 use Rattle.std.specs.Str.Lines.{strip_carriage_return}
+use Rattle.silt_jobs.specs.Common.{bytes_eq, Stop, words_of, longest_line}
 use Rattle.silt_device.specs.declared.life.Fill.{Fill}
 use Rattle.silt_device.specs.declared.life.Fill.TheVariants.{Old, New, Zero, Ones, Mix}
-use Rattle.silt_jobs.specs.Common.{Stop, words_of}
-use Rattle.silt_wire.specs.Lines.{longest_line}
 use Rattle.silt_wire.specs.Numbers.{number_of}
 
 -- what a stop leaves, by its word

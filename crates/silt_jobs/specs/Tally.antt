@@ -1,10 +1,8 @@
 -- Which lines of an output are refusals.
 use Rattle.std.specs.Prelude.{ℕ, ◌+◌, ◌-◌, ◌*◌, ◌%◌, ◌^◌, ◌==◌, nat_lt, Bool, if◌then◌else◌, cond, List, [], ◌∷◌, ◌++◌, codes, get_or, length, min, replicate}
 use Rattle.std.specs.Prelude.{slice_index, slice_range, slice_set, take}
-use Rattle.std.specs.List.{list_any}
-use Rattle.std.specs.Str.{bytes_eq}
+use Rattle.silt_jobs.specs.Common.{list_any, bytes_eq, Tally}
 use Rattle.silt_jobs.specs.declared.people.tally.Refusals.{Refusals}
-use Rattle.silt_jobs.specs.declared.people.tally.Tally.{Tally}
 
 -- the number of one digit before a space, or of two digits
 abbrev pub refusal_number : ℕ → ℕ → ℕ

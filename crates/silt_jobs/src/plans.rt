@@ -11,7 +11,7 @@ pub use merge_writes::{
     can_write, fewest_buckets, fits_writes, is_plannable, least_writes, needs_buckets,
     rows_between_merges, writes_more,
 };
-pub use obstacle::{obstacle_of, set_obstacle_of};
+pub use obstacle::obstacle_of;
 pub use plan::{BUCKET_COUNTS, MOST_KEYS, end_plan, geometry_planned, memory_planned, write_plan};
 pub use plan_cost::{PlanCost, Remedy, cost_of};
 pub use set_plan::{least_shards, share_of, write_set_plan};

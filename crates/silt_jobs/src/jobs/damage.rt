@@ -1,8 +1,6 @@
 // Where a damaged part of a disk lies.
 ghost use Rattle.std.specs.Prelude.{◌≡◌, ◌+◌, ◌*◌, ◌<◌, ◌≤◌, ◌^◌, IsTrue, IfSome, IfNone};
-ghost use Rattle.silt_disk.specs.Disk.{size};
-ghost use Rattle.silt_disk.specs.Layout.{device_size, entry_len, row_len};
-ghost use Rattle.silt_disk.specs.Header.{header_of, version_of};
+ghost use Rattle.silt_jobs.specs.Common.{size, device_size, entry_len, row_len, header_of, version_of};
 ghost use Rattle.silt_jobs.specs.Damage.{HasShape, LacksShape, offset_in, offset_of, merge_offset_of, unsorted_offset_of};
 
 use silt_disk::{Disk, Geometry, slot_start};

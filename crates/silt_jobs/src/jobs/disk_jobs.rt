@@ -1,7 +1,6 @@
 // The jobs on a disk of any kind.
 ghost use Rattle.std.specs.Prelude.{◌≡◌, ℕ, List, IfOk, Option as OptionOf, codes};
-ghost use Rattle.std.specs.Io.KnownBytes.{Appends};
-ghost use Rattle.silt_wire.specs.Reports.{report_text};
+ghost use Rattle.silt_jobs.specs.Common.{Appends, report_text};
 ghost use Rattle.silt_jobs.specs.Ended.{HasFailed, RefusesSo};
 ghost use Rattle.silt_jobs.specs.Jobs.{AnswersLines, AnswersReader, Checks, EndsSession, EndsTending, Formats, PrintsUntended, RunsOpened, TendsOpened};
 ghost use Rattle.silt_jobs.specs.Jobs.{formatted_line, run_status, session_error, tended_line};
@@ -255,12 +254,9 @@ pub fn tend_opened<E: Drop, D: Watched, W: Write>(
     }
     let status = tend_core(alloc, &mut core, merge_at, writer);
     let disk = core.close();
-    let failures = Failures::of(&disk);
     let ended = Ended {
-        status,
-        why: None,
-        found: None,
-        failures,
+        failures: Failures::of(&disk),
+        ..Ended::plain(status)
     };
     (disk, ended)
 }

@@ -1,7 +1,6 @@
 // All entries of a store as lines that put them.
 ghost use Rattle.std.specs.Prelude.{◌≡◌, ◌++◌, [], IfOk, OnOk, None, string_bytes};
-ghost use Rattle.std.specs.Io.KnownBytes.{Appends};
-ghost use Rattle.silt_dump.specs.Stream.{Streams};
+ghost use Rattle.silt_jobs.specs.Common.{Appends, Streams};
 ghost use Rattle.silt_jobs.specs.Dump.{Dumps, DumpsFile, EndsDump, GathersLines, WritesLines, put_line};
 
 use crate::jobs::refuse_disk;

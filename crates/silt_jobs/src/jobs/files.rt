@@ -1,8 +1,6 @@
 // The jobs on the disk of a path.
 ghost use Rattle.std.specs.Prelude.{◌≡◌, ◌+◌, ◌≤◌, IfErr, IfOk, OnOk};
-ghost use Rattle.silt_disk.specs.Disk.{GaveAny, size};
-ghost use Rattle.silt_disk.specs.Layout.{device_size};
-ghost use Rattle.silt_shards.specs.Marks.{mark_at, mark_len};
+ghost use Rattle.silt_jobs.specs.Common.{GaveAny, size, device_size, mark_at, mark_len};
 ghost use Rattle.silt_jobs.specs.Ended.{HasFailed};
 ghost use Rattle.silt_jobs.specs.Files.{ChecksFile, FormatsFile, FormatsFound, FormatsSized, FormatsUnmarked, RunsFile, TendsDisk, TendsFile, Unmarks, sized_by};
 ghost use Rattle.silt_jobs.specs.HeldData.{TellsStore};
@@ -53,23 +51,10 @@ pub fn format_file<S: DiskSource, W: Write, T: Tells>(
             Ended::refuse(alloc, Why::OutOfLimits(asked.numbers), writer),
         );
     };
-    let made = MadeFile {
-        file: asked.file,
-        geometry,
-        options: asked.options,
-    };
     match source.find(asked.file) {
-        Ok(disk) => format_found(alloc, source, disk, &made, writer, people),
+        Ok(disk) => format_found(alloc, source, disk, geometry, asked, writer, people),
         Err(error) => (None, Ended::refuse(alloc, Why::NoDisk(error), writer)),
     }
-}
-
-// A file that is to be a store of this geometry, and how it is made.
-#[derive(Clone, Copy)]
-struct MadeFile<'a> {
-    file: &'a str,
-    geometry: Geometry,
-    options: FormatOptions,
 }
 
 // Formats a disk that was found, if its data may be overwritten.
@@ -77,17 +62,18 @@ fn format_found<S: DiskSource, W: Write, T: Tells>(
     alloc: Global,
     source: S,
     disk: S::Disk,
-    made: &MadeFile<'_>,
+    geometry: Geometry,
+    asked: &NewStore<'_>,
     writer: &mut W,
     people: &mut T,
 ) -> (Option<S::Disk>, Ended<S::Error, <S::Disk as Disk>::Fault>)
-    ensures { FormatsFound S.Disk.Disk (sized_by made.now.options.sparse S.resized S.filled) (sized_by made.now.options.sparse S.not_resized S.not_filled)
-        (T.told people.old people.new made.now.file.now) (people.new ≡ people.old) made.now.geometry made.now.options.force disk result.0 result.1 (W.contents writer.old) (W.contents writer.new) }
+    ensures { FormatsFound S.Disk.Disk (sized_by asked.now.options.sparse S.resized S.filled) (sized_by asked.now.options.sparse S.not_resized S.not_filled)
+        (T.told people.old people.new asked.now.file.now) (people.new ≡ people.old) geometry asked.now.options.force disk result.0 result.1 (W.contents writer.old) (W.contents writer.new) }
 {
-    match may_overwrite(alloc, &disk, made.options.force) {
+    match may_overwrite(alloc, &disk, asked.options.force) {
         Ok(store) => {
-            tell_store(made.file, store, people);
-            format_sized(alloc, source, disk, made, writer)
+            tell_store(asked.file, store, people);
+            format_sized(alloc, source, disk, geometry, asked, writer)
         }
         Err(why) => (Some(disk), Ended::refuse(alloc, why, writer)),
     }
@@ -109,16 +95,16 @@ fn size_disk<S: DiskSource>(
     source: S,
     disk: S::Disk,
     len: u64,
-    made: &MadeFile<'_>,
+    asked: &NewStore<'_>,
 ) -> Result<S::Disk, S::Error>
-    ensures sized { IfOk result (sized_by made.now.options.sparse S.resized S.filled disk len) }
+    ensures sized { IfOk result (sized_by asked.now.options.sparse S.resized S.filled disk len) }
     ensures size { IfOk result (λ new. size (S.Disk.Disk.content new) ≡ len) }
-    ensures not_sized { IfErr result (sized_by made.now.options.sparse S.not_resized S.not_filled disk len) }
+    ensures not_sized { IfErr result (sized_by asked.now.options.sparse S.not_resized S.not_filled disk len) }
 {
-    if made.options.sparse {
+    if asked.options.sparse {
         S::resize(alloc, disk, len)
     } else {
-        source.fill(made.file, disk, len)
+        source.fill(asked.file, disk, len)
     }
 }
 
@@ -127,15 +113,16 @@ fn format_sized<S: DiskSource, W: Write>(
     alloc: Global,
     source: S,
     disk: S::Disk,
-    made: &MadeFile<'_>,
+    geometry: Geometry,
+    asked: &NewStore<'_>,
     writer: &mut W,
 ) -> (Option<S::Disk>, Ended<S::Error, <S::Disk as Disk>::Fault>)
-    ensures { FormatsSized S.Disk.Disk (sized_by made.now.options.sparse S.resized S.filled) (sized_by made.now.options.sparse S.not_resized S.not_filled)
-        made.now.geometry disk result.0 result.1 (W.contents writer.old) (W.contents writer.new) }
+    ensures { FormatsSized S.Disk.Disk (sized_by asked.now.options.sparse S.resized S.filled) (sized_by asked.now.options.sparse S.not_resized S.not_filled)
+        geometry disk result.0 result.1 (W.contents writer.old) (W.contents writer.new) }
 {
-    match size_disk(alloc, source, disk, made.geometry.size(), made) {
+    match size_disk(alloc, source, disk, geometry.size(), asked) {
         Ok(disk) => {
-            let (disk, ended) = format_unmarked(alloc, disk, made.geometry, writer);
+            let (disk, ended) = format_unmarked(alloc, disk, geometry, writer);
             (Some(disk), ended)
         }
         Err(error) => (None, Ended::refuse(alloc, Why::NoDisk(error), writer)),

@@ -1,7 +1,7 @@
 // The data on a disk before a format, and whether it may be overwritten.
 ghost use Rattle.std.specs.Prelude.{◌≡◌, IsTrue, Result as ResultOf};
-ghost use Rattle.silt_jobs.specs.HeldData.{HasCharge, IsFoundStore, FindsData, has_magic, is_empty, overwritten, store_overwritten};
 ghost use Rattle.silt_jobs.specs.declared.jobs.held_data.Holding.{Holding as HoldingOf};
+ghost use Rattle.silt_jobs.specs.HeldData.{HasCharge, IsFoundStore, FindsData, has_magic, is_empty, overwritten, store_overwritten};
 
 use crate::jobs::geometry_on;
 use crate::people::Why;
@@ -27,18 +27,15 @@ impl HeldStore {
     fn is_empty(&self) -> bool
         ensures { result ≡ is_empty self.now }
     {
-        match self.charge {
-            Some(charge) => charge == 0,
-            None => false,
-        }
+        matches!(self.charge, Some(0))
     }
 }
 
 // Its numbers in brackets, and how many keys it has at most, or that it is damaged or cannot be read.
 impl fmt::Display for HeldStore {
     fn fmt<W: fmt::Write>(&self, f: &mut fmt::Formatter<W>) -> fmt::Result {
-        if let Some(geometry) = &self.geometry {
-            let numbers = NumbersText::of(geometry);
+        if let Some(geometry) = self.geometry {
+            let numbers = NumbersText(geometry);
             write!(f, " ({numbers})")?;
         }
         match self.charge {

@@ -1,10 +1,7 @@
 // The number of hash stores of which a merge is to begin.
 ghost use Rattle.std.specs.Prelude.{◌≡◌, ◌<◌, ◌≤◌, IfSome, false, true};
-ghost use Rattle.std.specs.Option.{IsSomeAnd};
-ghost use Rattle.silt_disk.specs.Layout.{Shape};
-ghost use Rattle.silt_store_set.specs.CoreInvariant.{LeavesBegun};
+ghost use Rattle.silt_jobs.specs.Common.{IsSomeAnd, Shape, LeavesBegun, FewRegions};
 ghost use Rattle.silt_jobs.specs.Ended.{Refuses};
-ghost use Rattle.silt_jobs.specs.declared.people.ended.Why.TheVariants.{FewRegions};
 
 use crate::people::{Ended, Why};
 use silt_disk::Disk;

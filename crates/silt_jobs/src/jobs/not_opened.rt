@@ -1,9 +1,6 @@
 // A store that is opened, or not.
 ghost use Rattle.std.specs.Prelude.{◌≡◌, IfErr, IfOk, IsOkAnd};
-ghost use Rattle.std.specs.Option.{IsSomeAnd};
-ghost use Rattle.silt_shards.specs.Opening.{Says};
-ghost use Rattle.silt_shards.specs.declared.mark.Marking.TheVariants.{Unmarked};
-ghost use Rattle.silt_store_set.specs.CoreState.{Opens};
+ghost use Rattle.silt_jobs.specs.Common.{IsSomeAnd, Says, Unmarked, Opens};
 ghost use Rattle.silt_jobs.specs.Ended.{Refuses};
 ghost use Rattle.silt_jobs.specs.Openings.{IsNotOpened, IsRefused, IsUnopened, IsWhy};
 

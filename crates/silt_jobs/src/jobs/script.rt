@@ -1,11 +1,6 @@
 // A script: lives of a new store in memory.
 ghost use Rattle.std.specs.Prelude.{◌≡◌, All, IfOk, IfErr};
-ghost use Rattle.std.specs.FinMap.{empty};
-ghost use Rattle.silt_disk.specs.Disk.{LeavesOnly, size};
-ghost use Rattle.silt_disk.specs.Layout.{device_size};
-ghost use Rattle.silt_device.specs.Memory.{memory_content};
-ghost use Rattle.silt_image.specs.Meaning.{StandsFor};
-ghost use Rattle.silt_event.specs.Events.{HasValueOf};
+ghost use Rattle.silt_jobs.specs.Common.{empty, LeavesOnly, size, device_size, memory_content, StandsFor, HasValueOf};
 ghost use Rattle.silt_jobs.specs.NewStores.{NewStoreCause};
 ghost use Rattle.silt_jobs.specs.Scripts.{AnswersScript, RunsLives};
 ghost use Rattle.silt_jobs.specs.Jobs.{RunsScript};

@@ -1,10 +1,6 @@
 // Scripts: lines from a reader, divided into lives.
-ghost use Rattle.std.specs.Prelude.{◌≡◌, ◌≢◌, ◌<◌, ◌≤◌, [], ℕ, List, All, Err, OnOk, IfOk, length, take};
-ghost use Rattle.std.specs.Io.KnownBytes.{Consumes, IsAtEnd};
-ghost use Rattle.std.specs.Result.{ForOk};
-ghost use Rattle.silt_event.specs.Events.{HasValueOf};
-ghost use Rattle.silt_wire.specs.LineBuffer.{HoldsBytes};
-ghost use Rattle.silt_wire.specs.Sessions.{lines_after, rest_after};
+ghost use Rattle.std.specs.Prelude.{◌≢◌, ◌<◌, ◌≤◌, [], ℕ, List, All, Err, OnOk, IfOk, length, take};
+ghost use Rattle.silt_jobs.specs.Common.{Consumes, IsAtEnd, HasValueOf, HoldsBytes, lines_after, rest_after};
 ghost use Rattle.silt_jobs.specs.Scripts.{HasReadNothing, TakesStop, TakesAsked, TakesLine, TakesBytes, EndsReading, Reads, Fits};
 
 use crate::jobs::stop_reported;

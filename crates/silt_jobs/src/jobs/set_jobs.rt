@@ -1,7 +1,6 @@
 // Jobs that are done on each file of a set.
 ghost use Rattle.std.specs.Prelude.{◌≡◌, IfErr, IfOk, Some, length, max, vec_len};
-ghost use Rattle.std.specs.Io.KnownBytes.{Appends};
-ghost use Rattle.silt_shards.specs.Routing.{IsShardCount};
+ghost use Rattle.silt_jobs.specs.Common.{Appends, IsShardCount};
 ghost use Rattle.silt_jobs.specs.Ended.{HasFailed};
 ghost use Rattle.silt_jobs.specs.SetJobs.{DoesEach, DoesOn, DoesSet, DoesShard, DumpsEach, DumpsSet, IsNoSet, OpensSet, RefusesNoSet, is_shared, shard_line};
 

@@ -1,7 +1,6 @@
 // The jobs on the files of a set, each of which is a shard of one store.
-ghost use Rattle.std.specs.Prelude.{◌≡◌, ◌<◌, IfErr, IfOk, IfSome, IsTrue, None, Ok, Some, string_bytes, vec_len};
-ghost use Rattle.silt_shards.specs.Routing.{IsShardCount, is_shard_count};
-ghost use Rattle.silt_shards.specs.Sets.{AreAlike, SetDoes, value_len_of};
+ghost use Rattle.std.specs.Prelude.{◌≡◌, ◌<◌, IfErr, IfOk, IfSome, None, Ok, Some, string_bytes, vec_len};
+ghost use Rattle.silt_jobs.specs.Common.{IsShardCount, is_shard_count, AreAlike, value_len_of};
 ghost use Rattle.silt_jobs.specs.SetFiles.{AnswersCores, AnswersTended, EndsAtShard, EndsUnformatted, FormatsSet};
 ghost use Rattle.silt_jobs.specs.SetFiles.{HasFewRegions, HasFormatted, HasRegions, MakesShard, OpensFiles, OpensNot, OpensSession, RefusesAt};
 ghost use Rattle.silt_jobs.specs.SetFiles.{RunsCores, RunsDisks, RunsSet, at_shard, first_refusal, is_done_so, opened_by, set_value_len, shard_file, tending_each};
@@ -13,7 +12,7 @@ use crate::people::{
     Ended, Failures, Found, KeepsLines, KeepsTally, Tells, Watched, Why, write_out,
 };
 use silt_device::DiskSources;
-use silt_disk::{Disk, Geometry};
+use silt_disk::Disk;
 use silt_event::Answerer;
 use silt_shards::{LEAST_SHARDS, MOST_SHARDS, Mark, SetFault, StoreSet, open_shards, write_mark};
 use silt_store_set::{Core, Refusal};

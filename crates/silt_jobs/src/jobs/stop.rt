@@ -1,7 +1,6 @@
 // Lines to stops. A stop is a crash at a chosen device call.
 ghost use Rattle.std.specs.Prelude.{◌≡◌, ℕ, List};
-ghost use Rattle.silt_wire.specs.LineBuffer.{HoldsBytes};
-ghost use Rattle.silt_wire.specs.Lines.{words_of};
+ghost use Rattle.silt_jobs.specs.Common.{HoldsBytes, words_of};
 ghost use Rattle.silt_jobs.specs.Stops.{fill_of, reported_stop, stop_of_words, stop_of};
 
 use silt_device::{Fill, Stop};

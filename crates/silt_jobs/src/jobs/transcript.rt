@@ -1,8 +1,8 @@
 // The output of a script: the replies of its lives in the order of its lines.
-ghost use Rattle.std.specs.Prelude.{◌≡◌, ◌<◌, ◌+◌, ◌^◌, length, OnOk};
-ghost use Rattle.std.specs.Io.KnownBytes.{Appends};
+ghost use Rattle.std.specs.Prelude.{◌≡◌, ◌<◌, ◌+◌, ◌^◌, OnOk};
 ghost use Rattle.std.specs.List.{slice_get};
-ghost use Rattle.silt_jobs.specs.Scripts.{opening_text, event_text, fault_reported, mark_text, place_after, script_text, start};
+ghost use Rattle.silt_jobs.specs.Common.{Appends};
+ghost use Rattle.silt_jobs.specs.Scripts.{opening_text, event_text, fault_reported, mark_text, place_after, script_text};
 
 use crate::jobs::Mark;
 use silt_store_set::LifeReply;
@@ -18,13 +18,6 @@ pub struct LinePlace {
 }
 
 impl LinePlace {
-    // The place of the first line.
-    fn start() -> Self
-        ensures { result ≡ start }
-    {
-        LinePlace { life: 0, reply: 0 }
-    }
-
     // The place after a line.
     fn after(self, mark: Mark) -> Self
         requires life { self.life + 1 < 2 ^ 64 }
@@ -131,7 +124,7 @@ pub fn write_script<F: Drop, W: Write>(
     ensures { OnOk result (Appends (W.contents writer.old) (W.contents writer.new) (script_text lives.now marks.now)) }
 {
     write_opening(alloc, lives, 0, writer)?;
-    let mut place = LinePlace::start();
+    let mut place = LinePlace { life: 0, reply: 0 };
     for mark in marks {
         write_mark(alloc, lives, place, *mark, writer)?;
         place = place.after(*mark);

@@ -3,7 +3,7 @@ use crate::jobs::{HeldStore, Holding};
 use crate::people::{
     Ended, Ends, Found, InputLines, KINDS, Refusals, Session, StreamError, Why, write_place,
 };
-use crate::plans::{NumbersText, PlanCost, obstacle_of, out_of_limits, set_obstacle_of};
+use crate::plans::{NumbersText, PlanCost, obstacle_of, out_of_limits};
 use silt_store_set::{Place, Refusal};
 use silt_wire::SessionEnd;
 use silt_words::{VERSION, asks_version, complaint_of, forms_for};
@@ -96,7 +96,7 @@ fn print_ended<E: Display + Drop, F: Display + Drop, W: Write>(
         None => {}
         Some(Why::NoJob) => print_words(subject.words, out),
         // The writer's error says enough of a plan that could not be written.
-        Some(Why::NoPlan(_) | Why::NoSetPlan(..)) if !is_printed => {}
+        Some(Why::NoPlan(..)) if !is_printed => {}
         Some(why) => print_why(file, why, out),
     }
     match &ended.found {
@@ -107,7 +107,7 @@ fn print_ended<E: Display + Drop, F: Display + Drop, W: Write>(
     }
     for failure in [ended.failures.read, ended.failures.last] {
         if let Some(failure) = failure {
-            print_of_name(file.or(ended.failures.shard), &failure, out);
+            print_of(&file.or(ended.failures.shard), &failure, out);
         }
     }
     if let Err(error) = ended.status {
@@ -115,13 +115,8 @@ fn print_ended<E: Display + Drop, F: Display + Drop, W: Write>(
     }
 }
 
-/// Prints this of a file.
-pub fn print_of<T: Display, W: Write>(file: &str, it: &T, out: &mut W) {
-    let _ = writeln!(out, "silt: {file}: {it}");
-}
-
-// Prints this of a file of this name.
-fn print_of_name<T: Display, W: Write>(file: FileName<'_>, it: &T, out: &mut W) {
+/// Prints this of a file of this name.
+pub fn print_of<N: Display, T: Display, W: Write>(file: &N, it: &T, out: &mut W) {
     let _ = writeln!(out, "silt: {file}: {it}");
 }
 
@@ -147,12 +142,11 @@ fn print_words<W: Write>(words: &[String], out: &mut W) {
 // Prints why a job was refused, if it is not for the words.
 fn print_why<E: Display, F: Display, W: Write>(file: FileName<'_>, why: &Why<E, F>, out: &mut W) {
     match why {
-        Why::NoDisk(error) => print_of_name(file, error, out),
-        Why::NotDue(fault) => print_of_name(file, fault, out),
+        Why::NoDisk(error) => print_of(&file, error, out),
+        Why::NotDue(fault) => print_of(&file, fault, out),
         Why::Refused(refusal, at) => print_refusal_of(file, refusal, *at, out),
-        Why::Holds(holding) => print_holding(file, holding, out),
-        Why::IsStream(stream) => print_of_name(file, stream, out),
-        Why::NoRandom(StreamError { error }) => print_of(RANDOM_DEVICE, error, out),
+        Why::IsStream(stream) => print_of(&file, stream, out),
+        Why::NoRandom(StreamError { error }) => print_of(&RANDOM_DEVICE, error, out),
         _ => {
             let _ = write_unfit(file, why, out);
         }
@@ -162,6 +156,14 @@ fn print_why<E: Display, F: Display, W: Write>(file: FileName<'_>, why: &Why<E, 
 // Writes why what was asked for cannot be.
 fn write_unfit<E, F, W: Write>(file: FileName<'_>, why: &Why<E, F>, out: &mut W) -> io::Result<()> {
     match why {
+        Why::Holds(Holding::Store(store)) => writeln!(
+            out,
+            "silt: {file}: it holds a store{store}; --force overwrites it"
+        ),
+        Why::Holds(_) => writeln!(
+            out,
+            "silt: {file}: it holds other data; --force overwrites it"
+        ),
         Why::FewRegions(hashes) => writeln!(
             out,
             "silt: --merge-at: {file} has {hashes} hash regions, and no more hash stores"
@@ -174,10 +176,7 @@ fn write_unfit<E, F, W: Write>(file: FileName<'_>, why: &Why<E, F>, out: &mut W)
             Some(number) => writeln!(out, "silt: {number}"),
             None => Ok(()),
         },
-        Why::NoPlan(request) => writeln!(out, "silt: {}", obstacle_of(request)),
-        Why::NoSetPlan(shards, request) => {
-            writeln!(out, "silt: {}", set_obstacle_of(*shards, request))
-        }
+        Why::NoPlan(shards, request) => { writeln!(out, "silt: {}", obstacle_of(*shards, request)) }
         Why::NotListening(socket, error) => writeln!(out, "silt: {socket}: {}", error.error),
         Why::NoReply(socket, error) => write_no_reply(*socket, *error, out),
         _ => Ok(()),
@@ -223,25 +222,11 @@ fn write_damage<W: Write>(
     write_place(place, at, out)
 }
 
-// Prints that a file has data that stays.
-fn print_holding<W: Write>(file: FileName<'_>, holding: &Holding, out: &mut W) {
-    let _ = match holding {
-        Holding::Store(store) => writeln!(
-            out,
-            "silt: {file}: it holds a store{store}; --force overwrites it"
-        ),
-        _ => writeln!(
-            out,
-            "silt: {file}: it holds other data; --force overwrites it"
-        ),
-    };
-}
-
 // Prints the six numbers of a checked store and its charge, if the numbers could be read again.
 fn print_store<W: Write>(file: FileName<'_>, store: &HeldStore, out: &mut W) {
     if let (Some(geometry), Some(charge)) = (store.geometry, store.charge) {
         let most = geometry.sorted_capacity();
-        let numbers = NumbersText::of(&geometry);
+        let numbers = NumbersText(geometry);
         let _ = writeln!(out, "silt: {file}: {numbers}; charge {charge} of {most}");
     }
 }

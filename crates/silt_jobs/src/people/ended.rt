@@ -1,6 +1,6 @@
 // How a job ended, as a value that one function prints for people.
-ghost use Rattle.std.specs.Prelude.{◌≡◌, ◌⊎◌, IfOk, None, Some, is_err};
-ghost use Rattle.std.specs.Io.KnownBytes.{Appends};
+ghost use Rattle.std.specs.Prelude.{◌≡◌, IfOk, None, Some, is_err};
+ghost use Rattle.silt_jobs.specs.Common.{Appends};
 ghost use Rattle.silt_jobs.specs.Ended.{EndsWhole, Refuses, exit_status, none_failed, why_line, why_status};
 
 use crate::jobs::{HeldStore, Holding};
@@ -31,10 +31,8 @@ pub enum Why<E, F> {
     ShortValues,
     /// One of these numbers is out of its limits.
     OutOfLimits(Numbers),
-    /// No store has room for what is planned.
-    NoPlan(PlanRequest),
-    /// No set of so many shards has room for what is planned.
-    NoSetPlan(u32, PlanRequest),
+    /// No store, or no set of so many shards, has room for what is planned.
+    NoPlan(Option<u32>, PlanRequest),
     /// The listener on this socket failed.
     NotListening(SocketAddr, StreamError),
     /// The server at this socket cannot be reached, gave no reply that can be taken, or did not end.
@@ -105,10 +103,8 @@ impl<E: Drop, F: Drop> Ended<E, F> {
     {
         let status = write_why(alloc, &why, writer);
         Ended {
-            status,
             why: Some(why),
-            found: None,
-            failures: Failures::none(),
+            ..Ended::plain(status)
         }
     }
 
@@ -160,7 +156,7 @@ fn write_why<E, F: Drop, W: Write>(alloc: Global, why: &Why<E, F>, writer: &mut 
         Why::FewRegions(_) | Why::ShortValues | Why::OutOfLimits(_) | Why::NotDue(_) => {
             write_line(b"refused 2 BadGeometry\n", 1, writer)
         }
-        Why::NoPlan(_) | Why::NoSetPlan(..) => write_line(b"no plan\n", 1, writer),
+        Why::NoPlan(..) => write_line(b"no plan\n", 1, writer),
         Why::NotListening(..) | Why::NoReply(..) | Why::NotAsked => {
             write_line(b"network fault\n", 1, writer)
         }

@@ -1,6 +1,6 @@
 // Texts that are written at once.
 ghost use Rattle.std.specs.Prelude.{OnOk};
-ghost use Rattle.std.specs.Io.KnownBytes.{Appends};
+ghost use Rattle.silt_jobs.specs.Common.{Appends};
 
 use std::io::{self, Write};
 

@@ -1,7 +1,6 @@
 // The progress of the opening of a store, or of the making of its file, for people.
 ghost use Rattle.std.specs.Prelude.{◌≡◌, ◌-◌, ◌%◌, nat_le};
-ghost use Rattle.std.specs.Io.KnownBytes.{Keeps, WriteAppends};
-ghost use Rattle.std.specs.Io.{WritesAtMost};
+ghost use Rattle.silt_jobs.specs.Common.{Keeps, WriteAppends, WritesAtMost};
 
 use silt_device::Filling;
 use std::io::{self, Stderr, Write};

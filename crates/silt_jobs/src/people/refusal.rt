@@ -1,7 +1,6 @@
 // Whole jobs that are refused.
 ghost use Rattle.std.specs.Prelude.{◌≡◌, IfOk};
-ghost use Rattle.std.specs.Io.KnownBytes.{Appends};
-ghost use Rattle.silt_event.specs.declared.reply.Reply.TheVariants.{Refused};
+ghost use Rattle.silt_jobs.specs.Common.{Appends, Refused};
 ghost use Rattle.silt_jobs.specs.Scripts.{reply_line};
 
 use silt_store_set::Refusal;

@@ -1,11 +1,10 @@
 // Readers and writers that keep the error of their last call, and what people are told of their lines.
 ghost use Rattle.std.specs.Prelude.{◌≡◌, Option, Some, None, IfErr, IfOk, take};
-ghost use Rattle.std.specs.Io.KnownBytes.{Keeps, ReadConsumes, WriteAppends};
-ghost use Rattle.std.specs.Io.{ReadsAtMost, WritesAtMost};
-ghost use Rattle.silt_jobs.specs.Tally.{tally_of, unreported};
+ghost use Rattle.silt_jobs.specs.Common.{Keeps, ReadConsumes, WriteAppends, ReadsAtMost, WritesAtMost};
 ghost use Rattle.silt_jobs.specs.declared.people.input_lines.InputLines.{InputLines as InputLinesOf};
 ghost use Rattle.silt_jobs.specs.declared.people.streams.StreamError.{StreamError as StreamErrorOf};
 ghost use Rattle.silt_jobs.specs.declared.people.tally.Tally.{Tally as TallyOf};
+ghost use Rattle.silt_jobs.specs.Tally.{tally_of, unreported};
 
 use crate::people::{InputLines, Tally};
 use std::alloc::Global;
@@ -97,17 +96,10 @@ impl<R: Read> Read for WatchedReader<R> {
         ensures bytes { ReadConsumes (R.remaining self.old.reader) (R.remaining self.new.reader) result buf.new }
         ensures kept { IfErr result (λ error. self.new.error ≡ Some (record { error = error })) }
     {
-        match self.reader.read(buf) {
-            Ok(count) => {
-                self.error = None;
-                self.lines.take(&buf[..count]);
-                Ok(count)
-            }
-            Err(error) => {
-                self.error = Some(StreamError { error });
-                Err(error)
-            }
-        }
+        let read = self.reader.read(buf);
+        self.error = read.err().map(|error| StreamError { error });
+        self.lines.take(&buf[..read?]);
+        read
     }
 }
 
@@ -157,17 +149,10 @@ impl<W: Write> Write for WatchedWriter<W> {
         ensures tallied { IfOk result (λ count. self.new.tally ≡ tally_of self.old.tally (take count buf.now)) }
         ensures kept { IfErr result (λ error. self.new.error ≡ Some (record { error = error })) }
     {
-        match self.writer.write(buf) {
-            Ok(count) => {
-                self.error = None;
-                self.tally.take(&buf[..count]);
-                Ok(count)
-            }
-            Err(error) => {
-                self.error = Some(StreamError { error });
-                Err(error)
-            }
-        }
+        let written = self.writer.write(buf);
+        self.error = written.err().map(|error| StreamError { error });
+        self.tally.take(&buf[..written?]);
+        written
     }
 
     fn flush(&mut self) -> io::Result<()>

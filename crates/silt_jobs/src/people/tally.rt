@@ -1,6 +1,6 @@
 // Which lines of an output are refusals, and which is the first of each kind.
-ghost use Rattle.std.specs.Prelude.{◌≡◌, ◌-◌, ◌++◌, ◌∷◌, ◌<◌, ◌≤◌, [], cond, length, get_or, nat_lt};
-ghost use Rattle.silt_jobs.specs.Tally.{counted, has_any, has_refusals, line_ended, none_refused, refusal_number, refusal_in, tally_after, tally_of, unreported};
+ghost use Rattle.std.specs.Prelude.{◌≡◌, ◌-◌, ◌++◌, ◌∷◌, ◌<◌, ◌≤◌, [], cond, length, nat_lt};
+ghost use Rattle.silt_jobs.specs.Tally.{counted, has_refusals, line_ended, refusal_number, refusal_in, tally_after, tally_of, unreported};
 
 use std::marker::Model;
 
@@ -15,15 +15,6 @@ pub const KINDS: usize = 24;
 pub struct Refusals {
     pub count: u64,
     pub first: u64,
-}
-
-impl Refusals {
-    // Whether there are any.
-    fn has_any(&self) -> bool
-        ensures { result ≡ has_any self.now }
-    {
-        self.count > 0
-    }
 }
 
 // The first bytes of a line.
@@ -126,7 +117,7 @@ impl Tally {
     pub fn has_refusals(&self) -> bool
         ensures { result ≡ has_refusals self.now }
     {
-        self.refused[1..].iter().any(|refusals| refusals.has_any())
+        self.refused[1..].iter().any(|refusals| refusals.count > 0)
     }
 
     /// The refusals by their number. The first are the lines that are none.

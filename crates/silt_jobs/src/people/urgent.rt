@@ -1,5 +1,5 @@
 // What people are told at once, before a job has ended.
-ghost use Rattle.std.specs.Prelude.{◌≡◌, ℕ, List, ⊤};
+ghost use Rattle.std.specs.Prelude.{ℕ, List, ⊤};
 ghost use Rattle.silt_jobs.specs.declared.people.urgent.Urgent.{Urgent as UrgentOf};
 
 use crate::jobs::HeldStore;

@@ -1,6 +1,6 @@
 // Files as disks that keep which of their calls failed.
 ghost use Rattle.std.specs.Prelude.{◌≡◌, ◌+◌, ◌%◌, ◌^◌, ◌≤◌, Some, None, IfErr, MatchResult, OnErr, OnOk, length};
-ghost use Rattle.silt_disk.specs.Disk.{Makes, Settles, Stays, Tears, Writes, size};
+ghost use Rattle.silt_jobs.specs.Common.{Makes, Settles, Stays, Tears, Writes, size};
 ghost use Rattle.silt_disk.specs.declared.disk.Call.TheVariants.{Write, Sync};
 
 use crate::jobs::{Tended, tend_plain};

@@ -1,6 +1,6 @@
 // Geometries of six numbers, and which of the numbers is out of its limits.
 ghost use Rattle.std.specs.Prelude.{◌≡◌, MatchResult};
-ghost use Rattle.silt_disk.specs.Layout.{InLimits};
+ghost use Rattle.silt_jobs.specs.Common.{InLimits};
 ghost use Rattle.silt_jobs.specs.Jobs.{shape_asked};
 
 use silt_disk::{BadGeometry, Geometry};
@@ -32,12 +32,8 @@ pub struct OutOfLimits {
 
 impl fmt::Display for OutOfLimits {
     fn fmt<W: fmt::Write>(&self, f: &mut fmt::Formatter<W>) -> fmt::Result {
-        let OutOfLimits {
-            name,
-            value,
-            least,
-            most,
-        } = *self;
+        let (name, value) = (self.name, self.value);
+        let (least, most) = (self.least, self.most);
         write!(f, "{name} is {value}, and may be {least} to {most}")?;
         match name {
             "B" => f.write_str(", a power of two"),
@@ -73,22 +69,11 @@ pub fn out_of_limits(numbers: &Numbers) -> Option<OutOfLimits> {
 
 /// The six numbers of a geometry, each after its name on the command line.
 #[derive(Clone, Copy)]
-pub struct NumbersText {
-    geometry: Geometry,
-}
-
-impl NumbersText {
-    /// Of this geometry.
-    pub fn of(geometry: &Geometry) -> Self {
-        NumbersText {
-            geometry: *geometry,
-        }
-    }
-}
+pub struct NumbersText(pub Geometry);
 
 impl fmt::Display for NumbersText {
     fn fmt<W: fmt::Write>(&self, f: &mut fmt::Formatter<W>) -> fmt::Result {
-        let g = &self.geometry;
+        let g = &self.0;
         let (value_len, buckets, capacity) = (g.value_len(), g.buckets(), g.log_capacity());
         let (logs, hashes, most) = (g.logs(), g.hashes(), g.sorted_capacity());
         write!(f, "V {value_len}, B {buckets}, CAP {capacity}, ")?;

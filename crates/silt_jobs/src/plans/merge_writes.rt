@@ -1,7 +1,7 @@
 // How many entries merging writes for each row of a planned store.
 ghost use Rattle.std.specs.Prelude.{◌≡◌, ◌≤◌};
 ghost use Rattle.silt_jobs.specs.MergeWrites.{can_write, first_needed, has_room, is_plannable, least_writes, most_rows};
-ghost use Rattle.silt_jobs.specs.Plans.{bucket_counts, fits_writes, needs_buckets, rows_between_merges, writes_more};
+ghost use Rattle.silt_jobs.specs.Plans.{fits_writes, needs_buckets, rows_between_merges, writes_more};
 
 use crate::plans::{BUCKET_COUNTS, MOST_KEYS};
 
@@ -42,7 +42,7 @@ pub fn needs_buckets(most: u32, keys: u32, buckets: u32) -> bool
 
 /// The fewest buckets with which merging writes at most this many entries for each row.
 pub fn fewest_buckets(most: u32, keys: u32) -> u32
-    ensures { result ≡ first_needed most keys bucket_counts }
+    ensures { result ≡ first_needed most keys }
 {
     for buckets in BUCKET_COUNTS {
         if needs_buckets(most, keys, buckets) {
@@ -62,7 +62,7 @@ fn has_room(keys: u32, buckets: u32) -> bool
 
 // The most rows between two merges of any plan for so many keys.
 fn most_rows(keys: u32) -> u32
-    ensures { result ≡ most_rows keys bucket_counts }
+    ensures { result ≡ most_rows keys }
 {
     for buckets in BUCKET_COUNTS {
         if has_room(keys, buckets) {

@@ -8,21 +8,19 @@ use crate::plans::{
 use silt_words::PlanRequest;
 use std::fmt;
 
-/// Why no store has room for what is planned.
+/// Why no store has room for what is planned, or no set of so many shards.
 #[derive(Clone, Copy, Debug, PartialEq, Eq)]
 pub enum Obstacle {
     /// A value has this many bytes.
     ValueLen(u32),
-    /// There are this many keys. A set of so many shards has room for them.
-    Keys(u32, Option<u32>),
-    /// There are this many keys in each of so many shards. A set of so many has room for them.
-    Shares {
-        shards: u32,
-        share: u32,
+    /// There are this many keys, in each shard if it is a set. A set of so many shards has room for them.
+    Keys {
+        keys: u32,
+        shards: Option<u32>,
         enough: Option<u32>,
     },
-    /// With this many keys, in each of so many shards if it is a set, merging writes at least so many entries for each row. In
-    /// a set of enough shards it writes no more than what is allowed.
+    /// With this many keys, in each shard if it is a set, merging writes at least so many entries for each row. In a set of
+    /// enough shards it writes no more than what is allowed.
     Writes {
         keys: u32,
         shards: Option<u32>,
@@ -42,19 +40,12 @@ impl fmt::Display for Obstacle {
     fn fmt<W: fmt::Write>(&self, f: &mut fmt::Formatter<W>) -> fmt::Result {
         match *self {
             Obstacle::ValueLen(len) => write!(f, "V is {len}, and may be 1 to 4096"),
-            Obstacle::Keys(keys, enough) => {
-                write!(f, "KEYS is {keys}, and may be 0 to {MOST_KEYS}")?;
-                write_enough(enough, f)
-            }
-            Obstacle::Shares {
+            Obstacle::Keys {
+                keys,
                 shards,
-                share,
                 enough,
             } => {
-                write!(
-                    f,
-                    "each of {shards} shards is for {share} keys, and may be for {MOST_KEYS}"
-                )?;
+                write_most_keys(keys, shards, f)?;
                 write_enough(enough, f)
             }
             Obstacle::Writes {
@@ -73,6 +64,21 @@ impl fmt::Display for Obstacle {
                 write_limit(most, f)
             }
         }
+    }
+}
+
+// Writes how many keys a store may have, or each shard of a set.
+fn write_most_keys<W: fmt::Write>(
+    keys: u32,
+    shards: Option<u32>,
+    f: &mut fmt::Formatter<W>,
+) -> fmt::Result {
+    match shards {
+        Some(shards) => write!(
+            f,
+            "each of {shards} shards is for {keys} keys, and may be for {MOST_KEYS}"
+        ),
+        None => write!(f, "KEYS is {keys}, and may be 0 to {MOST_KEYS}"),
     }
 }
 
@@ -119,9 +125,9 @@ fn write_enough<W: fmt::Write>(enough: Option<u32>, f: &mut fmt::Formatter<W>) -
     }
 }
 
-/// What no store has room for, if there is no plan: the length of a value, else the number of keys, else what merging
-/// writes, else the memory.
-pub fn obstacle_of(request: &PlanRequest) -> Obstacle {
+/// What no store has room for, or no set of so many shards, if there is no plan: the length of a value, else the keys of the
+/// store or of each shard, else what merging writes, else the memory of all.
+pub fn obstacle_of(shards: Option<u32>, request: &PlanRequest) -> Obstacle {
     let PlanRequest {
         keys,
         value_len,
@@ -131,57 +137,29 @@ pub fn obstacle_of(request: &PlanRequest) -> Obstacle {
     if value_len < 1 || value_len > 4096 {
         return Obstacle::ValueLen(value_len);
     }
-    if keys > MOST_KEYS {
-        return Obstacle::Keys(keys, least_shards(merge_writes, keys));
-    }
-    match merge_writes {
-        Some(most) if !can_write(merge_writes, keys) => Obstacle::Writes {
-            keys,
-            shards: None,
-            least: least_writes(keys),
-            enough: least_shards(merge_writes, keys),
-            most,
-        },
-        most => Obstacle::Memory {
-            keys,
-            bytes: memory_needed(most, keys),
-            most,
-        },
-    }
-}
-
-/// What no set of so many shards has room for, if there is no plan: the length of a value, else the keys of each shard, else
-/// what merging writes, else the memory of all.
-pub fn set_obstacle_of(shards: u32, request: &PlanRequest) -> Obstacle {
-    let PlanRequest {
-        keys,
-        value_len,
-        merge_writes,
-        ..
-    } = *request;
-    if shards < 2 || value_len < 1 || value_len > 4096 {
-        return Obstacle::ValueLen(value_len);
-    }
-    let share = share_of(shards, keys);
+    let share = match shards {
+        Some(shards) if shards >= 2 => share_of(shards, keys),
+        _ => keys,
+    };
     let enough = least_shards(merge_writes, keys);
     if share > MOST_KEYS {
-        return Obstacle::Shares {
+        return Obstacle::Keys {
+            keys: share,
             shards,
-            share,
             enough,
         };
     }
     match merge_writes {
         Some(most) if !can_write(merge_writes, share) => Obstacle::Writes {
             keys: share,
-            shards: Some(shards),
+            shards,
             least: least_writes(share),
             enough,
             most,
         },
         most => Obstacle::Memory {
             keys,
-            bytes: memory_needed(most, share).saturating_mul(u64::from(shards)),
+            bytes: memory_needed(most, share).saturating_mul(u64::from(shards.unwrap_or(1))),
             most,
         },
     }

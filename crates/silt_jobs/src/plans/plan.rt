@@ -1,15 +1,14 @@
 // The six numbers of a planned store for a number of keys.
 ghost use Rattle.std.specs.Prelude.{◌≡◌, ◌≤◌, ◌+◌, ◌*◌, if◌then◌else◌, Some, None, IfOk, string_bytes};
-ghost use Rattle.std.specs.Io.KnownBytes.{Appends};
+ghost use Rattle.silt_jobs.specs.Common.{Appends};
 ghost use Rattle.silt_jobs.specs.PlanCosts.{EndsPlan, Plans};
-ghost use Rattle.silt_jobs.specs.Plans.{bucket_counts, first_planned, fits_memory, geometry_planned, is_needed, is_planned, memory_of, number_after, plan_text, shape_planned};
+ghost use Rattle.silt_jobs.specs.Plans.{first_planned, fits_memory, geometry_planned, is_needed, is_planned, memory_of, number_after, plan_text, shape_planned};
 
 use crate::people::{Ended, Found, Why, write_out};
 use crate::plans::{PlanCost, cost_of, fits_writes, needs_buckets};
 use silt_disk::Geometry;
 use silt_words::PlanRequest;
 use std::alloc::{AllocError, Global};
-use std::fmt;
 use std::io::{self, Write};
 
 /// The bucket counts of a geometry, the greatest first.
@@ -31,7 +30,7 @@ pub fn write_plan<E: Drop, F: Drop, W: Write>(
     request: &PlanRequest,
     writer: &mut W,
 ) -> Ended<E, F>
-    ensures { Plans request.now (first_planned request.now bucket_counts) result (W.contents writer.old) (W.contents writer.new) }
+    ensures { Plans request.now (first_planned request.now) result (W.contents writer.old) (W.contents writer.new) }
 {
     match geometry_planned(request) {
         Some(geometry) => {
@@ -39,7 +38,7 @@ pub fn write_plan<E: Drop, F: Drop, W: Write>(
             let memory = memory_planned(request.keys, geometry.buckets());
             end_plan(alloc, &geometry, geometry.size(), memory, cost, writer)
         }
-        None => Ended::refuse(alloc, Why::NoPlan(*request), writer),
+        None => Ended::refuse(alloc, Why::NoPlan(None, *request), writer),
     }
 }
 
@@ -77,7 +76,7 @@ fn write_numbers<W: Write>(
 
 /// The geometry of the most buckets that can be planned.
 pub fn geometry_planned(request: &PlanRequest) -> Option<Geometry>
-    ensures { result ≡ geometry_planned request.now bucket_counts }
+    ensures { result ≡ geometry_planned request.now }
 {
     for buckets in BUCKET_COUNTS {
         match planned(request, buckets) {

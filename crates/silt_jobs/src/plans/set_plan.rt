@@ -1,6 +1,6 @@
 // The plan of a set of shards.
 ghost use Rattle.std.specs.Prelude.{◌≡◌, ◌<◌, ◌≤◌, ℕ, IfNone, IfSome};
-ghost use Rattle.silt_shards.specs.Routing.{IsShardCount, least_shards, most_shards};
+ghost use Rattle.silt_jobs.specs.Common.{least_shards, most_shards};
 ghost use Rattle.silt_jobs.specs.PlanCosts.{cost_of};
 ghost use Rattle.silt_jobs.specs.SetPlans.{IsEnoughFor, PlansSet, set_cost, set_remedy, share_of, shard_request, times};
 
@@ -35,7 +35,7 @@ pub fn write_set_plan<E: Drop, F: Drop, W: Write>(
             let memory = times(shards, memory_planned(one.keys, geometry.buckets()));
             end_plan(alloc, &geometry, disk, memory, cost, writer)
         }
-        None => Ended::refuse(alloc, Why::NoSetPlan(shards, *request), writer),
+        None => Ended::refuse(alloc, Why::NoPlan(Some(shards), *request), writer),
     }
 }
 
@@ -62,12 +62,11 @@ fn shard_request(shards: u32, request: &PlanRequest) -> PlanRequest
 {
     PlanRequest {
         keys: share_of(shards, request.keys),
-        value_len: request.value_len,
         memory: match request.memory {
             Some(bytes) => Some(bytes / shards),
             None => None,
         },
-        merge_writes: request.merge_writes,
+        ..*request
     }
 }
 
@@ -78,13 +77,12 @@ fn set_cost(shards: u32, one: &PlanRequest, buckets: u32) -> PlanCost
 {
     let cost = cost_of(one, buckets);
     PlanCost {
-        keys: cost.keys,
-        rows: cost.rows,
         at_rest: times(shards, cost.at_rest),
         remedy: match cost.remedy {
             Some(remedy) => Some(set_remedy(shards, remedy)),
             None => None,
         },
+        ..cost
     }
 }
 

@@ -1,4 +1,4 @@
-use Rattle.silt_jobs.proofs.Common.{◌≡◌, ◌≤◌, ◌∙◌, ℕ, drop, length, max, suc, vec_len, refl, sym, ap, subst, arith, into_iter_items, HasFailed, exit_status, DoesFirst}
+use Rattle.silt_jobs.proofs.Common.{◌≡◌, ◌≤◌, ◌∙◌, ℕ, drop, length, max, suc, vec_len, refl, sym, ap, subst, arith, into_iter_items, HasFailed, exit_status}
 use Rattle.silt_jobs.proofs.Common.{worst_status}
 use Rattle.silt_shards.proofs.Openings.{count_most}
 use Rattle.silt_jobs.proofs.SetParts.{all_done, behind_place, broken_off, done_next, worst_more}
@@ -7,14 +7,14 @@ use Rattle.silt_jobs.proofs.jobs.set_jobs.do_on_each.Goals as goal
 pub loop-disk-init : goal.loop-disk-init
 loop-disk-init g c =
     let given = c.into_iter-disk-iterator.ensures.into_iter_gives in
+    let none = c.in-Ok.ensures.len in
     record {
       can = tt;
       finite = tt;
-      room = omega (arith, c.in-Ok.ensures.len, c.in-Ok.ensures.capacity, c.len.ensures, ap length given.0, c.args.disks.ok);
-      count = omega (arith, c.in-Ok.ensures.len);
-      rest = subst (λ (n : ℕ). drop n (into_iter_items c.into_iter-disk-iterator.result) ≡ into_iter_items c.into_iter-disk-iterator.result) (sym c.in-Ok.ensures.len) refl;
-      does = subst (λ (n : ℕ). DoesFirst g.D.Disk (HasFailed g.D.Watched.kept_read g.D.Watched.last_failure) c.args.job (into_iter_items c.into_iter-disk-iterator.result) n c.in-Ok.parts.items
-          (g.W.Write.contents c.args.writer.now) (g.W.Write.contents c.args.writer.now)) (sym c.in-Ok.ensures.len) (c.in-Ok.ensures.items, refl);
+      room = omega (arith, none, c.in-Ok.ensures.capacity, c.len.ensures, ap length given.0, c.args.disks.ok);
+      count = omega (arith, none);
+      rest = rw none refl;
+      does = rw none (c.in-Ok.ensures.items, refl);
       worst = ap (worst_status 0) (sym c.in-Ok.ensures.items);
     }
 

@@ -1,10 +1,9 @@
-use Rattle.silt_jobs.proofs.Common.{rules, ◌≡◌, refl, sym, subst, AreAlike, set_value_len}
+use Rattle.silt_jobs.proofs.Common.{rules, ◌≡◌, refl, set_value_len}
 use Rattle.silt_jobs.proofs.SessionEnds.{plain_cores, tending_alike}
 use Rattle.silt_jobs.proofs.jobs.sets.answer_cores.Goals as goal
 
 pub answer_tended-requires-clause-alike : goal.answer_tended-requires-clause-alike
-answer_tended-requires-clause-alike g c κs within =
-    subst (λ items. AreAlike (λ store. store.core.shape.value_len) items) (sym c.in-Ok.ensures.stores) (tending_alike c.args.options.merge_at c.args.cores.items c.requires.alike)
+answer_tended-requires-clause-alike g c κs within = rw c.in-Ok.ensures.stores (tending_alike c.args.options.merge_at c.args.cores.items c.requires.alike)
 
 pub returns : goal.returns
 returns g c =

@@ -1,5 +1,4 @@
-use Rattle.silt_jobs.proofs.Common.{◌≡◌, ◌≤◌, vec_len, vec_capacity}
-use Rattle.silt_jobs.specs.SetFiles.{OpensFiles}
+use Rattle.silt_jobs.proofs.Common.{◌≡◌, ◌≤◌, vec_len, vec_capacity, OpensFiles}
 use Rattle.silt_jobs.proofs.jobs.sets.open_files.Given as goal
 
 -- the files so far were opened

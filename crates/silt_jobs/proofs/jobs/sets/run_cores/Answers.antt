@@ -1,5 +1,4 @@
-use Rattle.silt_jobs.proofs.Common.{inl, subst}
-use Rattle.silt_jobs.specs.SetFiles.{HasFewRegions}
+use Rattle.silt_jobs.proofs.Common.{inl, subst, HasFewRegions}
 use Rattle.silt_jobs.proofs.jobs.sets.run_cores.Goals as goal
 
 pub returns-in-Some : goal.returns-in-Some

@@ -1,5 +1,4 @@
-use Rattle.silt_jobs.proofs.Common.{sym, ◌∙◌}
-use Rattle.silt_wire.proofs.Cuts.{last-from_none}
+use Rattle.silt_jobs.proofs.Common.{sym, ◌∙◌, last-from_none}
 use Rattle.silt_jobs.proofs.Stops.{stop-three}
 use Rattle.silt_jobs.proofs.jobs.stop.stop_of_words.Goals as goal
 

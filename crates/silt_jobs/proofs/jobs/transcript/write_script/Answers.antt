@@ -1,5 +1,5 @@
-use Rattle.silt_jobs.proofs.Common.{◌≤◌, ◌+◌, sym, subst, LinePlace, opening_text}
 use Rattle.std.specs.List.{slice_get}
+use Rattle.silt_jobs.proofs.Common.{opening_text}
 use Rattle.silt_jobs.proofs.Texts.{place-next, written-more, place_after-within}
 use Rattle.silt_jobs.proofs.jobs.transcript.write_script.Goals as goal
 
@@ -8,9 +8,10 @@ loop-mark-preserved g c =
     let at = c.loop-mark.mark-index in
     let lt = c.loop-mark-test.true in
     let i = c.loop-mark.invariant in
+    let within = place_after-within c.loop-mark.place _ at i.life i.reply in
     record {
       place = place-next c.args.marks.now at _ c.loop-mark.place c.after-place.result lt c.after-place.ensures i.place;
-      life = subst (λ (p : LinePlace). p.life ≤ at + 1) (sym c.after-place.ensures) (place_after-within c.loop-mark.place _ at i.life i.reply).0;
-      reply = subst (λ (p : LinePlace). p.reply ≤ at + 1) (sym c.after-place.ensures) (place_after-within c.loop-mark.place _ at i.life i.reply).1;
+      life = rw c.after-place.ensures within.0;
+      reply = rw c.after-place.ensures within.1;
       written = written-more c.args.lives.now c.args.marks.now at _ c.loop-mark.place (opening_text (slice_get c.args.lives.now 0)) _ _ _ lt i.place i.written c.in_ok-write_mark.ensures;
     }

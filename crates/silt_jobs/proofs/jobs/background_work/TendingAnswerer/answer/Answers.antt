@@ -4,11 +4,8 @@ use Rattle.silt_jobs.proofs.jobs.background_work.TendingAnswerer.answer.Goals as
 
 pub returns-then-is_some-clause-answers : goal.returns-then-is_some-clause-answers
 returns-then-is_some-clause-answers g c =
-    rw (← c.self.view_is) (does_off g.D.Disk c.self.inside.least c.self.inside.refusal c.self.inside.core c.answer_on.new.core
-    c.args.event c.answer_on.result (sym c.is_some.ensures ∙ c.if-is_some.true) c.answer_on.ensures)
+    rw (← c.self.view_is) (does_off g.D.Disk _ _ _ _ _ _ (sym c.is_some.ensures ∙ c.if-is_some.true) c.answer_on.ensures)
 
 pub returns-clause-answers : goal.returns-clause-answers
 returns-clause-answers g c =
-    rw (← c.self.view_is) (does_on g.D.Disk c.self.inside.least c.self.inside.refusal c.tend_on-self-inside.result c.self.inside.core
-    c.tend_on-self-inside.new.core c.answer_on-2.new.core c.args.event c.answer_on-2.result
-    (sym c.is_some.ensures ∙ c.if-is_some.false) c.tend_on-self-inside.ensures c.answer_on-2.ensures)
+    rw (← c.self.view_is) (does_on g.D.Disk _ _ _ _ _ _ _ _ (sym c.is_some.ensures ∙ c.if-is_some.false) c.tend_on-self-inside.ensures c.answer_on-2.ensures)

@@ -1,5 +1,4 @@
-use Rattle.silt_jobs.proofs.Common.{ℕ, List, [], HoldsBytes, rest_after, TakesBytes, Fits}
-use Rattle.std.specs.Io.KnownBytes.{Consumes}
+use Rattle.silt_jobs.proofs.Common.{ℕ, List, [], HoldsBytes, rest_after, TakesBytes, Fits, Consumes}
 use Rattle.silt_jobs.proofs.jobs.script_lines.Reading.take_all.Given as goal
 
 abbrev pub invariant-loop : goal.invariant-loop

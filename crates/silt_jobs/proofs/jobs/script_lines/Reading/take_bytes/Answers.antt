@@ -1,4 +1,4 @@
-use Rattle.silt_jobs.proofs.Common.{ℕ, List, take, sym, subst, arith, HoldsBytes, rest_after, TakesBytes}
+use Rattle.silt_jobs.proofs.Common.{arith}
 use Rattle.silt_wire.proofs.Answering.{rest_after-part}
 use Rattle.silt_jobs.proofs.Readings.{TakesBytes-part}
 use Rattle.silt_jobs.proofs.jobs.script_lines.Reading.take_bytes.Goals as goal
@@ -8,17 +8,12 @@ loop-done-preserved c =
     let done = c.loop-done.done in
     let count = c.in_ok-done.field-0 in
     let bytes = c.args.bytes.now in
-    let back = c.split_at.ensures.back in
     let bound = c.in_ok-done.ensures.count.1 in
     let rest = c.split_at.ensures.back_len in
     let before = c.loop-done.invariant in
     record {
       within = omega arith;
-      holds = λ p h.
-          let H = λ (r : List ℕ). HoldsBytes c.take_piece.new.pending (rest_after (rest_after p (take done bytes)) (take count r)) in
-          subst (λ (q : List ℕ). HoldsBytes c.take_piece.new.pending q) (sym (rest_after-part p bytes done count)) (subst H back (c.in_ok-done.ensures.holds _ (before.holds p h)));
-      takes = λ p h.
-          let P = λ (r : List ℕ). TakesBytes c.args.value_len (rest_after p (take done bytes)) c.loop-done.self (take count r) c.take_piece.new.self in
-          TakesBytes-part c.args.value_len p _ _ _ bytes done count (before.takes p h) (subst P back (c.in_ok-done.ensures.takes _ (before.holds p h)));
+      holds = λ p h. rw (rest_after-part p bytes done count) (rw c.split_at.ensures.back at c.in_ok-done.ensures.holds _ (before.holds p h));
+      takes = λ p h. TakesBytes-part c.args.value_len p _ _ _ bytes done count (before.takes p h) (rw c.split_at.ensures.back at c.in_ok-done.ensures.takes _ (before.holds p h));
       fits = λ h. c.in_ok-done.ensures.fits (before.fits h);
     }

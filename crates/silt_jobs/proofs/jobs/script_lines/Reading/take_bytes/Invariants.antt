@@ -1,5 +1,4 @@
-use Rattle.silt_jobs.proofs.Common.{◌≤◌, ℕ, List, length, take, HoldsBytes, rest_after, TakesBytes, Fits}
-use Rattle.std.proofs.Common.{◌-◌}
+use Rattle.silt_jobs.proofs.Common.{◌≤◌, ℕ, List, length, take, HoldsBytes, rest_after, TakesBytes, Fits, ◌-◌}
 use Rattle.silt_jobs.proofs.jobs.script_lines.Reading.take_bytes.Given as goal
 
 abbrev pub invariant-loop-done : goal.invariant-loop-done

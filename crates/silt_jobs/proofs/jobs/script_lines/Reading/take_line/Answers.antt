@@ -10,5 +10,4 @@ returns-in-None-clause-takes c =
     (c.parse.ensures.asked line h) both.1 both.0)
 
 pub returns-in-None-clause-fits : goal.returns-in-None-clause-fits
-returns-in-None-clause-fits c =
-    on_ok-weaker c.take_asked.result c.take_asked.ensures.takes (λ takes. asked_fits c.args.value_len c.parse.result c.args.self.now c.take_asked.new.self c.parse.ensures.fits takes)
+returns-in-None-clause-fits c = on_ok-weaker _ c.take_asked.ensures.takes (λ takes. asked_fits c.args.value_len c.parse.result c.args.self.now c.take_asked.new.self c.parse.ensures.fits takes)
