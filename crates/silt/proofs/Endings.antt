@@ -1,5 +1,6 @@
 -- How the program ends.
 use Rattle.std.proofs.Common.{◌≡◌, ◌∙◌, ◌⊎◌, ℕ, List, None, Result, Ok, Err, ap, refl, inl, inr}
+use Rattle.std.proofs.lemmas.Result.{IfOk-weaker}
 use Rattle.std.specs.Prelude.{IfOk, IsOkAnd}
 use Rattle.silt_wire.specs.Statuses.{IsStatus}
 use Rattle.silt_words.specs.Commands.{job_named}
@@ -12,16 +13,7 @@ pub unread : (words : List (List ℕ)) (error : WordsError) → (error ≡ Usage
 unread words Usage none = none refl
 unread words NoMemory none = tt
 
--- what a server with this status ended with, if it ends with 1 where a merge was refused
-pub served_ended : {E : Type 0} (Unserved Served Refused : Type 0) (status ended : Result ℕ E) → IfOk status (IsStatus Unserved) → (status ≡ Ok 0 → Served)
-    → IfOk ended (λ now. IsOkAnd status (λ before. (now ≡ before) ⊎ ((before ≡ 0) × (now ≡ 1) × Refused))) → IfOk ended (IsStatus (Unserved ⊎ Served))
-served_ended Unserved Served Refused status (Err error) known done h = tt
-served_ended Unserved Served Refused (Err error) (Ok now) known done h = absurd h
-served_ended Unserved Served Refused (Ok before) (Ok now) (inl zero) done (inl same) = inl (same ∙ zero)
-served_ended Unserved Served Refused (Ok before) (Ok now) (inr unserved) done (inl same) = inr (same ∙ unserved.0, inl unserved.1)
-served_ended Unserved Served Refused (Ok before) (Ok now) known done (inr refused) = inr (refused.1, inr (done (ap Ok refused.0)))
-
--- the same, with what is quiet at status 0
+-- what a server with this status ended with, and what is quiet at status 0, if it ends with 1 where a merge was refused
 pub quiet_ended : {E : Type 0} (Quiet Unserved Served Refused : Type 0) (status ended : Result ℕ E) → IfOk status (IsStatus Unserved) → (status ≡ Ok 0 → Quiet) → (status ≡ Ok 0 → Served)
     → IfOk ended (λ now. IsOkAnd status (λ before. (now ≡ before) ⊎ ((before ≡ 0) × (now ≡ 1) × Refused)))
     → IfOk ended (λ now. ((now ≡ 0) × Quiet × Served) ⊎ ((now ≡ 1) × (Unserved ⊎ Served)))
@@ -30,6 +22,13 @@ quiet_ended Quiet Unserved Served Refused (Err error) (Ok now) known quiet done 
 quiet_ended Quiet Unserved Served Refused (Ok before) (Ok now) (inl zero) quiet done (inl same) = inl (same ∙ zero, quiet (ap Ok zero), done (ap Ok zero))
 quiet_ended Quiet Unserved Served Refused (Ok before) (Ok now) (inr unserved) quiet done (inl same) = inr (same ∙ unserved.0, inl unserved.1)
 quiet_ended Quiet Unserved Served Refused (Ok before) (Ok now) known quiet done (inr refused) = inr (refused.1, inr (done (ap Ok refused.0)))
+
+-- the same, without what is quiet
+pub served_ended : {E : Type 0} (Unserved Served Refused : Type 0) (status ended : Result ℕ E) → IfOk status (IsStatus Unserved) → (status ≡ Ok 0 → Served)
+    → IfOk ended (λ now. IsOkAnd status (λ before. (now ≡ before) ⊎ ((before ≡ 0) × (now ≡ 1) × Refused))) → IfOk ended (IsStatus (Unserved ⊎ Served))
+served_ended Unserved Served Refused status ended known done h =
+    IfOk-weaker ended _ _ (λ now so. elim so [ inl quiet ↦ inl quiet.0 | inr broken ↦ inr broken ])
+    (quiet_ended (Unit {0}) Unserved Served Refused status ended known (λ _. tt) done h)
 
 -- what is known at status 0, and what at 1
 pub at_status : {E : Type 0} (Bound Quiet Served Unserved : Type 0) (status : Result ℕ E) → IfOk status (IsStatus Unserved) → (status ≡ Ok 0 → Bound) → (status ≡ Ok 0 → Quiet)

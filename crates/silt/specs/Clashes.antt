@@ -1,12 +1,8 @@
 -- What is said of a job whose file is a standard stream.
 use Rattle.std.specs.Prelude.{◌≡◌, ℕ, IfOk, List, MatchBool, Option, Some, None, option_map}
+use Rattle.silt.specs.Common.{Prints, Shard, Why, IsStream, Clash}
 use Rattle.silt_event.specs.declared.refusal.Refusal.TheVariants.{Device}
-use Rattle.silt_jobs.specs.Jobs.{Prints}
 use Rattle.silt_jobs.specs.declared.people.ended.Ended.{Ended}
-use Rattle.silt_jobs.specs.declared.people.ended.Found.TheVariants.{Shard}
-use Rattle.silt_jobs.specs.declared.people.ended.Why.{Why}
-use Rattle.silt_jobs.specs.declared.people.ended.Why.TheVariants.{IsStream}
-use Rattle.silt.specs.declared.clash.Clash.{Clash}
 
 -- the line says that the device is refused, or, if the standard output is the file, nothing is written
 abbrev pub PrintsClash : Clash → Option (List ℕ) → Option (List ℕ) → Type 0

@@ -1,25 +1,15 @@
 -- What a client of a server sends, and what it prints.
-use Rattle.std.specs.Prelude.{◌≡◌, ◌⊎◌, ◌++◌, ◌+◌, ◌-◌, ◌==◌, ◌||◌, ℕ, Bool, IfOk, List, [], ◌∷◌, MatchOption, Option, None, Some, codes, drop, if◌then◌else◌, length, nat_eq, not, take}
-use Rattle.std.specs.Io.KnownBytes.{Appends}
-use Rattle.std.specs.List.{filter, position, starts_with}
-use Rattle.std.specs.Net.Grammar.{IsIpText, IsSocketText}
-use Rattle.std.specs.Net.Socket.{socket_ip, socket_port}
-use Rattle.std.specs.Option.{option_map_or}
+use Rattle.std.specs.Prelude.{◌≡◌, ◌⊎◌, ◌++◌, ◌+◌, ◌-◌, ◌==◌, ◌||◌, ℕ, Bool, IfOk, List, [], MatchOption, Option, None, Some, codes, drop, if◌then◌else◌, length}
+use Rattle.std.specs.Prelude.{nat_eq, not, take}
 use Rattle.std.specs.declared.net.socket_addr.SocketAddr.{SocketAddr}
-use Rattle.silt_resp.specs.Texts.{string_text}
+use Rattle.silt.specs.Common.{Appends, filter, position, starts_with, IsIpText, IsSocketText, socket_ip, socket_port, option_map_or, string_text, NamedContact}
+use Rattle.silt.specs.Common.{Refuses, NoReply, NotAsked, StreamError, Urgent, NoEntrance, Password, Address}
 use Rattle.silt_wire.specs.Numbers.{number_of}
-use Rattle.silt_words.specs.Jobs.{NamedContact}
-use Rattle.silt_jobs.specs.Ended.{Refuses}
 use Rattle.silt_jobs.specs.declared.people.ended.Ended.{Ended}
-use Rattle.silt_jobs.specs.declared.people.ended.Why.TheVariants.{NoReply, NotAsked}
-use Rattle.silt_jobs.specs.declared.people.streams.StreamError.{StreamError}
-use Rattle.silt_jobs.specs.declared.people.urgent.Urgent.{Urgent}
-use Rattle.silt.specs.Passwords.{ReadsLine}
-use Rattle.silt.specs.Services.{TellsWhy}
 use Rattle.silt.specs.declared.client_text.Call.{Call}
 use Rattle.silt.specs.declared.client_text.Call.TheVariants.{Stop, Info}
-use Rattle.silt.specs.declared.listener.NoEntrance.{NoEntrance}
-use Rattle.silt.specs.declared.listener.NoEntrance.TheVariants.{Password, Address, Socket, Page}
+use Rattle.silt.specs.Passwords.{ReadsLine}
+use Rattle.silt.specs.Services.{TellsWhy}
 
 -- what a client sends first, if it has a password
 abbrev pub password_text : Option (List ℕ) → List ℕ
@@ -77,8 +67,7 @@ HasLine Begins (Some path) password = (line : List ℕ) × (password ≡ Some li
 abbrev pub IsNoContact : NamedContact → NoEntrance → Type 0
 IsNoContact contact (Password file error) = contact.password_file ≡ Some file.now
 IsNoContact contact (Address text) = contact.address ≡ text.now
-IsNoContact contact (Socket socket error) = ⊥
-IsNoContact contact (Page socket error) = ⊥
+IsNoContact contact other = ⊥
 
 module _ {E F : Type 0} where
   -- a reply came, and what is printed of it was written

@@ -1,3 +1,4 @@
+pub mod Common
 pub mod Clashes
 pub mod Clients
 pub mod Copies

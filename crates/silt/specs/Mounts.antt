@@ -1,9 +1,8 @@
 -- What is read of the list of mounted file systems.
 use Rattle.std.specs.Prelude.{◌≡◌, ℕ, ◌+◌, if◌then◌else◌, List, map, codes, slice_get, Option, Some, None, option_map, option_and_then}
 use Rattle.std.specs.Borrow.{Bor}
-use Rattle.std.specs.List.{position}
 use Rattle.std.specs.Str.{bytes_eq}
-use Rattle.silt_wire.specs.Lines.{words_of}
+use Rattle.silt.specs.Common.{position, words_of}
 use Rattle.silt.specs.declared.mounts.Mount.{Mount}
 use Rattle.silt.specs.declared.mounts.Weakness.{Weakness}
 use Rattle.silt.specs.declared.mounts.Weakness.TheVariants.{InMemory, Remote}

@@ -1,8 +1,6 @@
 -- The password that a server asks its clients for.
 use Rattle.std.specs.Prelude.{◌≡◌, ◌==◌, ◌<◌, ◌≤◌, ℕ, List, Option, None, Some, length, take}
-use Rattle.std.specs.List.{position}
-use Rattle.std.specs.Option.{option_map_or}
-use Rattle.sha1.specs.Sha1.{sha1}
+use Rattle.silt.specs.Common.{position, option_map_or, sha1}
 
 -- the first line, without its line feed
 abbrev pub first_line : List ℕ → List ℕ

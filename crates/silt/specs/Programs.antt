@@ -1,44 +1,33 @@
 -- What the program does for its words.
 use Rattle.std.specs.Prelude.{◌≡◌, ◌⊎◌, ℕ, true, is_some, List, [], Option, Some, None, codes}
-use Rattle.silt_disk.specs.declared.disk.Disk.{Ghosts}
+use Rattle.silt.specs.Common.{Ghosts, job_file, job_shards, named, named_contact, Job, Service, Refuses, RunsScript, FormatsSet, RunsSet, NoJob, NoRandom, Refused}
+use Rattle.silt.specs.Common.{Failures, StreamError, Urgent, Clash, SameStreams}
 use Rattle.silt_device.specs.declared.source.DiskSource.{Ghosts as SourceOf}
 use Rattle.silt_event.specs.declared.refusal.Refusal.TheVariants.{NoMemory as OutOfMemory}
 use Rattle.silt_words.specs.Commands.{job_named}
-use Rattle.silt_words.specs.Jobs.{job_file, job_shards, named, named_contact}
-use Rattle.silt_words.specs.declared.job.Job.{Job}
 use Rattle.silt_words.specs.declared.job.Job.TheVariants.{Format, Script, Run, Tend, Check, Dump, Set, Plan, PlanSet, Serve, Stop, Info}
 use Rattle.silt_words.specs.declared.job.FormatOptions.{FormatOptions}
 use Rattle.silt_words.specs.declared.job.Numbers.{Numbers}
-use Rattle.silt_words.specs.declared.job.Service.{Service}
 use Rattle.silt_words.specs.declared.job.SetWork.{SetWork}
 use Rattle.silt_words.specs.declared.job.SetWork.TheVariants.{Format as ToFormat, Run as ToRun, Tend as ToTend, Check as ToCheck, Dump as ToDump}
 use Rattle.silt_words.specs.declared.job.WordsError.{WordsError}
 use Rattle.silt_words.specs.declared.job.WordsError.TheVariants.{Usage, NoMemory}
 use Rattle.silt_jobs.specs.Dump.{DumpsFile}
-use Rattle.silt_jobs.specs.Ended.{Refuses}
 use Rattle.silt_jobs.specs.Files.{ChecksFile, FormatsFile, RunsFile, TendsFile, sized_by}
-use Rattle.silt_jobs.specs.Jobs.{RunsScript}
-use Rattle.silt_jobs.specs.SetFiles.{FormatsSet, RunsSet}
 use Rattle.silt_jobs.specs.SetJobs.{DoesSet, DumpsSet}
 use Rattle.silt_jobs.specs.SetPlans.{PlansSet}
 use Rattle.silt_jobs.specs.PlanCosts.{Plans}
-use Rattle.silt_jobs.specs.Plans.{bucket_counts, first_planned}
+use Rattle.silt_jobs.specs.Plans.{first_planned}
 use Rattle.silt_jobs.specs.declared.people.ended.Ended.{Ended}
 use Rattle.silt_jobs.specs.declared.people.ended.Ends.{Ends}
-use Rattle.silt_jobs.specs.declared.people.ended.Why.TheVariants.{NoJob, NoRandom, Refused}
-use Rattle.silt_jobs.specs.declared.people.failures.Failures.{Failures}
-use Rattle.silt_jobs.specs.declared.jobs.set_jobs.ShardJob.TheVariants as each
-use Rattle.silt_jobs.specs.declared.people.streams.StreamError.{StreamError}
 use Rattle.silt_jobs.specs.declared.people.tally.Tally.{Tally}
-use Rattle.silt_jobs.specs.declared.people.urgent.Urgent.{Urgent}
+use Rattle.silt_jobs.specs.declared.jobs.set_jobs.ShardJob.TheVariants as each
 use Rattle.silt.specs.Clashes.{RefusesClash}
 use Rattle.silt.specs.Clients.{AsksServer}
 use Rattle.silt.specs.Services.{ServesFile}
 use Rattle.silt.specs.SetServices.{ServesSet}
 use Rattle.silt.specs.Streams.{IsApart, IsClash}
-use Rattle.silt.specs.declared.clash.Clash.{Clash}
 use Rattle.silt.specs.declared.client_text.Call.TheVariants as call
-use Rattle.silt.specs.declared.standard_streams.SameStreams.{SameStreams}
 
 -- the words name this job
 abbrev pub NamesJob : List (List ℕ) → Job → Type 0
@@ -94,7 +83,7 @@ module _ {S D E F W N : Type 0} (facts : Ghosts D F) (Failed : D → Failures �
       (given : Option D) × ChecksFile facts (disks.shared source file.now) (disks.not_shared source file.now) given ended (contents before) (contents after)
   DoesOne (Dump file) reading ended remaining left before after =
       (given : Option D) × DumpsFile facts (disks.shared source file.now) (disks.not_shared source file.now) given ended (contents before) (contents after)
-  DoesOne (Plan request) reading ended remaining left before after = Plans request (first_planned request bucket_counts) ended (contents before) (contents after)
+  DoesOne (Plan request) reading ended remaining left before after = Plans request (first_planned request) ended (contents before) (contents after)
   DoesOne (PlanSet shards request) reading ended remaining left before after = PlansSet shards request ended (contents before) (contents after)
   DoesOne (Serve service) reading ended remaining left before after =
       DoesServe facts Failed disks source service (told old new) (new ≡ old) service.shards ended (contents before) (contents after)

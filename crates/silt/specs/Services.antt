@@ -1,27 +1,13 @@
 -- What serving the disk of a path does.
 use Rattle.std.specs.Prelude.{◌≡◌, ◌⊎◌, ◌<◌, ◌/◌, ℕ, max, Bool, true, false, IfOk, IfSome, List, Option, None, Some, codes, unwrap_or}
-use Rattle.std.specs.Net.Socket.{socket_port}
-use Rattle.std.specs.Option.{IsSomeAnd}
-use Rattle.silt_disk.specs.declared.disk.Disk.{Ghosts}
-use Rattle.silt_desk.specs.Servings.{LeavesCalls}
-use Rattle.silt_server.specs.Serving.{IsServed, ServesKept, PrintsNotServed}
+use Rattle.silt.specs.Common.{socket_port, IsSomeAnd, Ghosts, LeavesCalls, IsServed, ServesKept, PrintsNotServed, Says, CoreState, Opens, NamedAccess, named_access}
+use Rattle.silt.specs.Common.{Service, Refuses, RefusesFewRegions, ShortValues, Failures, Urgent, NoEntrance, Password, Address, Socket, Page}
 use Rattle.silt_server.specs.declared.limits.Protocol.{Protocol}
 use Rattle.silt_server.specs.declared.limits.Protocol.TheVariants.{Lines, PipelinedLines, Resp}
-use Rattle.silt_shards.specs.Opening.{Says}
 use Rattle.silt_shards.specs.declared.mark.Marking.TheVariants.{Unmarked}
-use Rattle.silt_store_set.specs.CoreState.{CoreState, Opens}
-use Rattle.silt_words.specs.Jobs.{NamedAccess, named_access}
-use Rattle.silt_words.specs.declared.job.Service.{Service}
-use Rattle.silt_jobs.specs.Ended.{Refuses}
-use Rattle.silt_jobs.specs.Jobs.{RefusesFewRegions}
 use Rattle.silt_jobs.specs.Openings.{RefusesDisk, RefusesNoDisk}
 use Rattle.silt_jobs.specs.declared.people.ended.Ended.{Ended}
-use Rattle.silt_jobs.specs.declared.people.ended.Why.TheVariants.{ShortValues}
-use Rattle.silt_jobs.specs.declared.people.failures.Failures.{Failures}
-use Rattle.silt_jobs.specs.declared.people.urgent.Urgent.{Urgent}
 use Rattle.silt_jobs.specs.declared.people.urgent.Urgent.TheVariants.{NoAddress, NoPassword, NoPort}
-use Rattle.silt.specs.declared.listener.NoEntrance.{NoEntrance}
-use Rattle.silt.specs.declared.listener.NoEntrance.TheVariants.{Password, Address, Socket, Page}
 
 -- what a server and its clients send each other
 abbrev pub protocol_of : Bool → Bool → Protocol

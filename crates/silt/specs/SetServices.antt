@@ -1,26 +1,14 @@
 -- What serving the files of a set does.
-use Rattle.std.specs.Prelude.{◌≡◌, ◌⊎◌, ◌<◌, ◌≤◌, ◌++◌, ℕ, All, Bool, true, false, IfOk, is_some, List, [], MatchOption, Option, None, Some, codes, length, map, slice_get, take}
-use Rattle.std.specs.Io.KnownBytes.{Appends}
-use Rattle.std.specs.List.{AllZip}
-use Rattle.silt_disk.specs.Layout.{Shape}
-use Rattle.silt_disk.specs.declared.disk.Disk.{Ghosts}
+use Rattle.std.specs.Prelude.{◌≡◌, ◌⊎◌, ◌<◌, ◌≤◌, ◌++◌, ℕ, All, Bool, true, false, IfOk, is_some, List, [], MatchOption, Option, None, Some, codes, length, map}
+use Rattle.std.specs.Prelude.{slice_get, take}
+use Rattle.silt.specs.Common.{Appends, AllZip, Shape, Ghosts, BreaksServing, LeavesEach, ServesSetAt, network_text, AreOfOneShape, AreShards, IsRefusedSet}
+use Rattle.silt.specs.Common.{IsShardCount, LeavesBegun, CoreState, Opens, Service, Refuses, none_failed, HasFewRegions, HasRegions, OpensFiles, OpensNot, RefusesAt}
+use Rattle.silt.specs.Common.{set_value_len, Why, FewRegions, NoJob, Refused, ShortValues, Failures, Urgent}
 use Rattle.silt_device.specs.declared.source.DiskSource.{Ghosts as SourceOf}
 use Rattle.silt_event.specs.declared.refusal.Refusal.TheVariants.{NoMemory as OutOfMemory}
-use Rattle.silt_server.specs.Serving.{BreaksServing, LeavesEach, ServesSetAt, network_text}
-use Rattle.silt_shards.specs.Opening.{AreOfOneShape, AreShards, IsRefusedSet}
-use Rattle.silt_shards.specs.Routing.{IsShardCount}
 use Rattle.silt_shards.specs.declared.fault.SetCause.{SetCause}
-use Rattle.silt_store_set.specs.CoreInvariant.{LeavesBegun}
-use Rattle.silt_store_set.specs.CoreState.{CoreState, Opens}
-use Rattle.silt_words.specs.declared.job.Service.{Service}
-use Rattle.silt_jobs.specs.Ended.{Refuses, none_failed}
 use Rattle.silt_jobs.specs.Openings.{IsWhy}
-use Rattle.silt_jobs.specs.SetFiles.{HasFewRegions, HasRegions, OpensFiles, OpensNot, RefusesAt, set_value_len}
 use Rattle.silt_jobs.specs.declared.people.ended.Ended.{Ended}
-use Rattle.silt_jobs.specs.declared.people.ended.Why.{Why}
-use Rattle.silt_jobs.specs.declared.people.ended.Why.TheVariants.{FewRegions, NoJob, Refused, ShortValues}
-use Rattle.silt_jobs.specs.declared.people.failures.Failures.{Failures}
-use Rattle.silt_jobs.specs.declared.people.urgent.Urgent.{Urgent}
 use Rattle.silt.specs.Services.{TellsEntrance}
 
 module _ {D : Type 0} (Failed : D → Failures → Type 0) where

@@ -1,12 +1,7 @@
 -- The standard streams of the program, and the files that they are.
 use Rattle.std.specs.Prelude.{◌≡◌, ◌⊎◌, ◌<◌, ℕ, ℤ, pos, ◌<ℤ◌, List, length, Option, Some, None, IfSome, MatchOption, codes, if◌then◌else◌}
 use Rattle.std.specs.List.{All}
-use Rattle.std.specs.Option.{IsSomeAnd}
-use Rattle.silt_jobs.specs.SetFiles.{shard_file}
-use Rattle.silt_words.specs.Jobs.{job_file, job_shards}
-use Rattle.silt_words.specs.declared.job.Job.{Job}
-use Rattle.silt.specs.declared.clash.Clash.{Clash}
-use Rattle.silt.specs.declared.standard_streams.SameStreams.{SameStreams}
+use Rattle.silt.specs.Common.{IsSomeAnd, shard_file, job_file, job_shards, Job, Clash, SameStreams}
 use Rattle.silt_jobs.specs.declared.people.streams.Stream.{Stream}
 use Rattle.silt_jobs.specs.declared.people.streams.Stream.TheVariants.{Input, Output, Error}
 

@@ -2,7 +2,7 @@
 
 use crate::backup_places::{Folder, Folders, Places};
 use crate::copy_disk::{CopyDisk, CopyFault};
-use crate::merge_gate::GateParts;
+use crate::merge_gate::{GateParts, path_of};
 use crate::merge_holds::Hold;
 use crate::random_bytes::random_set;
 use crate::standard_streams::{StandardStreams, not_its_link};
@@ -10,7 +10,7 @@ use silt_backup::{Backup, BackupFault};
 use silt_care::{Finds, View};
 use silt_disk::Disk;
 use silt_event::Counter;
-use silt_jobs::{NoBackup, StreamError, Tells, Urgent, is_set, shard_path};
+use silt_jobs::{NoBackup, StreamError, Tells, Urgent, is_set};
 use silt_session::Board;
 use silt_shards::{Mark, Marking, read_mark, write_mark};
 use silt_view::Moment;
@@ -70,7 +70,7 @@ fn copy_fault<G: Drop>(fault: BackupFault<G, CopyFault>) -> NoBackup {
     }
 }
 
-impl<'a, 'f, 'p, H: AllocGlobal + StandardStreams> Backups<'a, 'f, 'p, H> {
+impl<'a, 'f, 'p, H: StandardStreams> Backups<'a, 'f, 'p, H> {
     /// The backups that a service asks for.
     pub fn new(
         rt: &'a H,
@@ -138,10 +138,7 @@ impl<'a, 'f, 'p, H: AllocGlobal + StandardStreams> Backups<'a, 'f, 'p, H> {
         let mut files = Vec::new(alloc);
         for store in 0..stores {
             let shard = u32::try_from(store).unwrap_or(u32::MAX);
-            files.push(match self.is_set {
-                true => shard_path(alloc, self.file, shard)?,
-                false => String::from_str(alloc, self.file)?,
-            })?;
+            files.push(path_of(alloc, self.file, self.is_set.then_some(shard))?)?;
         }
         Ok(files)
     }
@@ -184,25 +181,17 @@ impl<'a, 'f, 'p, H: AllocGlobal + StandardStreams> Backups<'a, 'f, 'p, H> {
 
     // Whether this path is that of one of the stores' own files.
     fn is_own(&self, own: &[String], path: &str) -> bool {
-        for file in own {
-            if self.rt.is_same_file(path, file.as_str()) {
-                return true;
-            }
-        }
-        false
+        own.iter()
+            .any(|file| self.rt.is_same_file(path, file.as_str()))
     }
 
     // Whether one of these paths is that of one of the stores' own files.
     fn has_own(&self, own: &[String], paths: &[String]) -> bool {
-        for path in paths {
-            if self.is_own(own, path.as_str()) {
-                return true;
-            }
-        }
-        false
+        paths.iter().any(|path| self.is_own(own, path.as_str()))
     }
 
-    // Writes a backup, if what it copies is not freed meanwhile. What was written of it is removed if not.
+    // Writes a backup, if what it copies is not freed meanwhile. What was written of it is removed if not, or if it does not get its name.
+    // At last the folder of that name is synced, and the backup of a set that has been replaced is removed.
     fn write_once<V: View, F: Finds>(
         &self,
         path: &str,
@@ -213,16 +202,30 @@ impl<'a, 'f, 'p, H: AllocGlobal + StandardStreams> Backups<'a, 'f, 'p, H> {
         self.may_begin(path, places).map_err(file_fault)?;
         let moments = self.moments(views)?;
         self.make_folder(places).map_err(file_fault)?;
-        let written = match self.begin_each(places, views, &moments, finds) {
-            Ok(disks) => self.finish_each(disks, views, &moments, finds),
-            Err(why) => Err(why),
-        };
+        let written = self.write_files(path, places, views, &moments, finds);
         if written.is_err() {
             self.remove_new(places);
         }
         written?;
-        self.put_in_place(path, places).map_err(file_fault)?;
+        self.rt.sync_folder(path).map_err(file_fault)?;
+        if let Some(folders) = &places.folders {
+            self.remove_folder(&folders.old);
+        }
         Ok(commands_of(&moments))
+    }
+
+    // Writes a copy of each store, and gives them the name of the backup.
+    fn write_files<V: View, F: Finds>(
+        &self,
+        path: &str,
+        places: &Places,
+        views: &[V],
+        moments: &[Moment],
+        finds: &F,
+    ) -> Result<(), NoBackup> {
+        let disks = self.begin_each(places, views, moments, finds)?;
+        self.finish_each(disks, views, moments, finds)?;
+        self.give_name(path, places).map_err(file_fault)
     }
 
     // An error if a backup is not to take the place of what is at its path. Before the files in the older folder of a set are removed, it
@@ -257,10 +260,10 @@ impl<'a, 'f, 'p, H: AllocGlobal + StandardStreams> Backups<'a, 'f, 'p, H> {
         if V::note_moments(views, &mut moments).is_err() {
             return Err(NoBackup::Unread);
         }
-        match have_failed(&moments) {
-            true => Err(NoBackup::Failed),
-            false => Ok(moments),
+        if moments.iter().any(|moment| moment.facts.failed > 0) {
+            return Err(NoBackup::Failed);
         }
+        Ok(moments)
     }
 
     // Begins the copy of each store: it has what a step of a merge could free.
@@ -351,20 +354,7 @@ impl<'a, 'f, 'p, H: AllocGlobal + StandardStreams> Backups<'a, 'f, 'p, H> {
         }
     }
 
-    // Gives the copy the name of the backup, and syncs the folder of that name. If it does not get the name, it is removed. The files of a
-    // set and their folder are settled before.
-    fn put_in_place(&self, path: &str, places: &Places) -> io::Result<()> {
-        let named = self.give_name(path, places);
-        if named.is_err() {
-            self.remove_new(places);
-        }
-        named?;
-        self.rt.sync_folder(path)?;
-        self.remove_old(places);
-        Ok(())
-    }
-
-    // Gives the copy the name of the backup, in one step.
+    // Gives the copy the name of the backup, in one step. The files of a set and their folder are settled before.
     fn give_name(&self, path: &str, places: &Places) -> io::Result<()> {
         if let (Some(_), Some(file)) = (&places.folders, places.copy_of(0)) {
             self.rt.sync_folder(file)?;
@@ -381,13 +371,6 @@ impl<'a, 'f, 'p, H: AllocGlobal + StandardStreams> Backups<'a, 'f, 'p, H> {
         }
     }
 
-    // Removes the backup of a set that has been replaced.
-    fn remove_old(&self, places: &Places) {
-        if let Some(folders) = &places.folders {
-            self.remove_folder(&folders.old);
-        }
-    }
-
     // Removes a folder with the files of a set. What stays of it is removed by the next backup that goes there.
     fn remove_folder(&self, folder: &Folder) {
         let _ = self.rt.remove_folder(folder.path.as_str(), &folder.files);
@@ -401,11 +384,6 @@ fn rooms_for<V: View>(alloc: Global, views: &[V]) -> Result<Vec<Moment>, AllocEr
         rooms.push(Moment::room(alloc, view.geometry())?)?;
     }
     Ok(rooms)
-}
-
-// Whether one of the stores has failed.
-fn have_failed(moments: &[Moment]) -> bool {
-    moments.iter().any(|moment| moment.facts.failed > 0)
 }
 
 // How many commands the stores had accepted together.

@@ -2,11 +2,11 @@
 ghost use Rattle.std.specs.Prelude.{⊤};
 
 use crate::backups::Backups;
-use crate::merge_gate::GateParts;
+use crate::merge_gate::{GateParts, tell_of};
 use crate::standard_streams::StandardStreams;
 use silt_care::{Finding, Finds, Pace, Schedule, Scrub, View};
 use silt_event::{Counter, Facts};
-use silt_jobs::{Tells, Urgent, offset_of, shard_path};
+use silt_jobs::{Urgent, offset_of};
 use silt_metrics::serve_page;
 use silt_server::Cares;
 use silt_session::Board;
@@ -15,7 +15,7 @@ use silt_words::Service;
 use std::io::Write;
 use std::net::{TcpListener, TcpStream};
 use std::sync::Wait;
-use std::time::{Clock, Duration};
+use std::time::Duration;
 
 /// How many megabytes a second a scrub reads if no number is given.
 const RATE: u32 = 20;
@@ -39,7 +39,7 @@ pub struct Care<'a, 'f, 'p, H> {
     page: Option<TcpListener>,
 }
 
-impl<'a, 'f, 'p, H: AllocGlobal + Clock + Wait + StandardStreams> Care<'a, 'f, 'p, H> {
+impl<'a, 'f, 'p, H: Wait + StandardStreams> Care<'a, 'f, 'p, H> {
     /// The care that a service asks for, with the listener of its page, if there is one.
     pub fn new(
         rt: &'a H,
@@ -62,15 +62,8 @@ impl<'a, 'f, 'p, H: AllocGlobal + Clock + Wait + StandardStreams> Care<'a, 'f, '
 
     // Tells people what a scrub found in the store of this number, and where.
     fn tell(&self, shard: u32, finding: Finding, at: Option<u64>) {
-        let mut people = self.rt.errors();
         let urgent = Urgent::Scrubbed(self.rt.alloc(), finding, at);
-        if self.is_set {
-            if let Ok(path) = shard_path(self.rt.alloc(), self.file, shard) {
-                people.tell(path.as_str(), &urgent);
-                return;
-            }
-        }
-        people.tell(self.file, &urgent);
+        tell_of(self.rt, self.file, self.is_set.then_some(shard), &urgent);
     }
 
     // Tells people where the page is, if there is one.
@@ -160,8 +153,7 @@ impl<H, V: View> Watch<'_, '_, '_, '_, H, V> {
     }
 }
 
-impl<H: AllocGlobal + Clock + Wait + StandardStreams, V: View> Finds
-    for Watch<'_, '_, '_, '_, H, V> {
+impl<H: Wait + StandardStreams, V: View> Finds for Watch<'_, '_, '_, '_, H, V> {
     ghost heard = { λ _ _ _. ⊤ };
 
     ghost has_stopped = { λ _. ⊤ };
@@ -190,8 +182,7 @@ struct Patience<'w, 'a, 'f, 'p, H, V> {
     views: &'w [V],
 }
 
-impl<H: AllocGlobal + Clock + Wait + StandardStreams, V: View> Finds
-    for Patience<'_, '_, '_, '_, H, V> {
+impl<H: Wait + StandardStreams, V: View> Finds for Patience<'_, '_, '_, '_, H, V> {
     ghost heard = { λ _ _ _. ⊤ };
 
     ghost has_stopped = { λ _. ⊤ };
@@ -204,7 +195,7 @@ impl<H: AllocGlobal + Clock + Wait + StandardStreams, V: View> Finds
     }
 }
 
-impl<H: AllocGlobal + Clock + Wait + Sync + StandardStreams> Cares for Care<'_, '_, '_, H> {
+impl<H: Wait + StandardStreams> Cares for Care<'_, '_, '_, H> {
     fn care<V: View>(&self, views: &[V]) {
         if self.hours.is_none() && self.page.is_none() && !self.backups.are_written() {
             return;

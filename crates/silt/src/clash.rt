@@ -1,8 +1,6 @@
 // Jobs whose file is a standard stream of the program.
-ghost use Rattle.std.specs.Prelude.{◌≡◌, ◌<◌, ℕ, None, Ok, IfErr, IfOk, IfSome, is_some, option_map, true};
-ghost use Rattle.silt_jobs.specs.SetFiles.{shard_file};
-ghost use Rattle.silt_jobs.specs.declared.people.ended.Found.TheVariants.{Shard};
-ghost use Rattle.silt_words.specs.Jobs.{job_shards};
+ghost use Rattle.std.specs.Prelude.{◌≡◌, ◌<◌, ℕ, None, Ok, IfErr, IfOk, IfSome, is_some, true};
+ghost use Rattle.silt.specs.Common.{shard_file, Shard, job_shards};
 ghost use Rattle.silt.specs.Clashes.{PrintsClash, RefusesClash, SaysClash};
 ghost use Rattle.silt.specs.Streams.{AreStreams, IsApart, IsClash, IsClashAmong, IsNoStream};
 
@@ -31,7 +29,7 @@ pub struct Clash<'a> {
 /// # Errors
 ///
 /// Out of memory for the name of a set's file.
-pub fn clash_of<'a, H: AllocGlobal + StandardStreams>(
+pub fn clash_of<'a, H: StandardStreams>(
     rt: &H,
     job: &Job<'a>,
 ) -> Result<Option<Clash<'a>>, AllocError>
@@ -47,7 +45,7 @@ pub fn clash_of<'a, H: AllocGlobal + StandardStreams>(
 }
 
 // The first file of a set that is a standard stream, if there is one.
-fn clash_among<'a, H: AllocGlobal + StandardStreams>(
+fn clash_among<'a, H: StandardStreams>(
     rt: &H,
     file: &'a str,
     shards: u32,
@@ -76,15 +74,13 @@ fn clash_at<'a, H: StandardStreams>(
     ensures clash { IfSome result (λ clash. (clash.file.now ≡ file.entry.now) × (clash.shard ≡ shard) × AreStreams (H.are_file rt.now) path.now clash.same clash.stream) }
 {
     let same = rt.streams_at(path);
-    match same.first() {
-        Some(stream) => Some(Clash {
-            file,
-            shard,
-            same,
-            stream,
-        }),
-        None => None,
-    }
+    let stream = same.first()?;
+    Some(Clash {
+        file,
+        shard,
+        same,
+        stream,
+    })
 }
 
 /// Refuses the job of such a file. Neither the line nor the reason goes into that file.
@@ -98,18 +94,8 @@ pub fn refuse_clash<E: Drop, F: Drop, W: Write>(
     let status = write_clash(alloc, clash, writer);
     Ended {
         why: reason_of(clash),
-        found: found_of(clash),
+        found: clash.shard.map(|shard| Found::Shard(shard)),
         ..Ended::plain(status)
-    }
-}
-
-// Which shard of a set the file is, if the job is on one.
-fn found_of(clash: &Clash<'_>) -> Option<Found>
-    ensures { result ≡ option_map (λ shard. Shard shard) clash.now.shard }
-{
-    match clash.shard {
-        Some(shard) => Some(Found::Shard(shard)),
-        None => None,
     }
 }
 

@@ -1,7 +1,6 @@
 // The jobs of a client: they ask a server that runs.
 ghost use Rattle.std.specs.Prelude.{◌≡◌, ℕ, IfErr, IfOk, IfSome, List, option_map};
-ghost use Rattle.std.specs.Io.KnownBytes.{Appends};
-ghost use Rattle.silt_words.specs.Jobs.{named_contact};
+ghost use Rattle.silt.specs.Common.{Appends, named_contact};
 ghost use Rattle.silt.specs.Clients.{HasLine, IsAnswered, IsAt, IsNoContact, plain_reply, printed, reply_status};
 
 use crate::client_text::{
@@ -48,17 +47,15 @@ fn socket_at(text: &str) -> Option<SocketAddr>
     match number_of(text.as_bytes()) {
         Some(port) => {
             let port = u16::try_from(port).ok()?;
-            match THIS_MACHINE.parse::<IpAddr>() {
-                Ok(address) => Some(SocketAddr::new(address, port)),
-                Err(_) => None,
-            }
+            let address = THIS_MACHINE.parse::<IpAddr>().ok()?;
+            Some(SocketAddr::new(address, port))
         }
         None => text.parse::<SocketAddr>().ok(),
     }
 }
 
 // The server that a contact names, with the password for it.
-fn server_at<'a, H: AllocGlobal + StandardStreams>(
+fn server_at<'a, H: StandardStreams>(
     rt: &H,
     contact: &Contact<'a>,
 ) -> Result<ServerAt, NoEntrance<'a>>
@@ -182,11 +179,7 @@ fn ask<
 
 impl<H, S> Machine<'_, H, S>
 where
-    H: Net<Listener = TcpListener, Stream = TcpStream>
-        + AllocGlobal
-        + Clock
-        + Wait
-        + StandardStreams,
+    H: Net<Listener = TcpListener, Stream = TcpStream> + Wait + StandardStreams,
     S: DiskSource,
 {
     ghost use Rattle.std.specs.Prelude.{◌≡◌};

@@ -1,9 +1,9 @@
 // What a client of a server sends, and what it prints of the reply.
-ghost use Rattle.std.specs.Prelude.{◌≡◌, ◌==◌, ◌++◌, IfOk, OnOk, not, option_map, codes};
-ghost use Rattle.std.specs.List.{filter, position};
-ghost use Rattle.silt_resp.specs.Texts.{string_text};
+ghost use Rattle.std.specs.Prelude.{◌≡◌, ◌++◌, IfOk, OnOk, option_map};
+ghost use Rattle.silt.specs.Common.{string_text};
 ghost use Rattle.silt.specs.Clients.{behind_line, command_line, is_refusal, let_in, password_text, plain_reply, printed, reply_status, request_text, shown};
 
+use crate::password::feed_at;
 use std::alloc::{AllocError, Global};
 
 /// What a client asks of a server.
@@ -63,13 +63,6 @@ pub fn request_of(alloc: Global, call: Call, password: Option<&[u8]>) -> Result<
     push_password(alloc, &mut request, password)?;
     request.extend_from_slice(call.line().as_bytes())?;
     Ok(request)
-}
-
-// Where the first line ends.
-fn feed_at(text: &[u8]) -> Option<usize>
-    ensures { result ≡ position (λ b. b == 10) text.now }
-{
-    text.iter().position(|byte| *byte == b'\n')
 }
 
 // A text behind its first line.

@@ -1,10 +1,8 @@
 // The listener of a server. It goes on after an accept that failed for a cause that may pass.
 ghost use Rattle.std.specs.Prelude.{◌≡◌, IfErr, IfOk};
-ghost use Rattle.std.specs.Net.Grammar.{IsIpText};
-ghost use Rattle.silt_words.specs.Jobs.{named_access};
+ghost use Rattle.silt.specs.Common.{IsIpText, named_access, socket_ip, socket_port};
 ghost use Rattle.silt.specs.Passwords.{HasPassword};
 ghost use Rattle.silt.specs.Services.{IsNoAddress, IsNoEntrance, IsNoPassword, TellsWhy, address_text};
-ghost use Rattle.std.specs.Net.Socket.{socket_ip, socket_port};
 
 use crate::password::read_password;
 use crate::standard_streams::StandardStreams;
@@ -80,13 +78,6 @@ fn socket_of<'a>(service: &Service<'a>) -> Result<SocketAddr, NoEntrance<'a>>
     }
 }
 
-// The socket of the page of metrics: this machine alone reaches it.
-fn page_socket(port: u16) -> SocketAddr
-    ensures { socket_port result ≡ port }
-{
-    SocketAddr::new(IpAddr::V4(Ipv4Addr::LOCALHOST), port)
-}
-
 // A listener on this socket, whose accepts do not wait.
 fn bind_page<H: Net<Listener = TcpListener, Stream = TcpStream>>(
     rt: &H,
@@ -97,7 +88,7 @@ fn bind_page<H: Net<Listener = TcpListener, Stream = TcpStream>>(
     Ok(page)
 }
 
-// The listener of the page of metrics, if a service has one.
+// The listener of the page of metrics, if a service has one. This machine alone reaches it.
 fn page_of<'a, H: Net<Listener = TcpListener, Stream = TcpStream>>(
     rt: &H,
     service: &Service<'a>,
@@ -107,7 +98,7 @@ fn page_of<'a, H: Net<Listener = TcpListener, Stream = TcpStream>>(
     let Some(port) = service.metrics else {
         return Ok(None);
     };
-    let socket = page_socket(port);
+    let socket = SocketAddr::new(IpAddr::V4(Ipv4Addr::LOCALHOST), port);
     match bind_page(rt, socket) {
         Ok(page) => Ok(Some(page)),
         Err(error) => Err(NoEntrance::Page(socket, StreamError { error })),
@@ -184,7 +175,7 @@ pub struct PatientListener<'a, H> {
     failure: OnceLock<io::Error>,
 }
 
-impl<'a, H: Clock + Wait + StandardStreams> PatientListener<'a, H> {
+impl<'a, H: Wait + StandardStreams> PatientListener<'a, H> {
     /// The connections of an entrance, until this board says that the server is to end.
     pub fn new(
         rt: &'a H,
@@ -252,7 +243,7 @@ fn pause<H: Clock + Wait>(rt: &H) {
     thread::sleep(rt, Duration::from_millis(PAUSE));
 }
 
-impl<H: Net<Listener = TcpListener, Stream = TcpStream> + Clock + Wait + StandardStreams> Listens
+impl<H: Net<Listener = TcpListener, Stream = TcpStream> + Wait + StandardStreams> Listens
     for PatientListener<'_, H> {
     ghost has_port = { λ listener port. Unit {0} };
 

@@ -73,7 +73,6 @@ use std::process::ExitCode;
 use std::rt::{Files, Runtime};
 use std::sync::Wait;
 use std::thread::Threads;
-use std::time::Clock;
 
 fn main(rt: HostRuntime) -> ExitCode {
     match fill_descriptors(rt.alloc(), &rt) {
@@ -83,7 +82,7 @@ fn main(rt: HostRuntime) -> ExitCode {
             status
         }
         Err(error) => {
-            print_of(NULL_DEVICE, &error, &mut rt.stderr());
+            print_of(&NULL_DEVICE, &error, &mut rt.stderr());
             ExitCode::from(1)
         }
     }
@@ -94,17 +93,14 @@ fn main(rt: HostRuntime) -> ExitCode {
 // and the progress of an opening, if it is a terminal, go to `at_once`.
 fn done<
     S: Runtime
-        + AllocGlobal
         + Files<File = File>
         + Net<Listener = TcpListener, Stream = TcpStream>
-        + Clock
         + Threads
         + Wait
-        + Sync
         + StandardStreams,
     E: Write + Drop,
 >(rt: &S, errors: E, at_once: Stderr) -> ExitCode {
-    let progress = Progress::new(terminal(at_once));
+    let progress = Progress::new(at_once.is_terminal().then_some(at_once));
     let mut errors = AfterProgress::new(errors, &progress);
     let mut writer = WatchedWriter::new(AfterProgress::new(io::writer(rt), &progress));
     let words = match own_words(rt) {
@@ -130,14 +126,6 @@ fn done<
     };
     print_ends(&subject, &ends, &mut errors);
     ExitCode::from(ends.whole.exit_status())
-}
-
-// The standard error, if it is a terminal.
-fn terminal(stderr: Stderr) -> Option<Stderr> {
-    if stderr.is_terminal() {
-        return Some(stderr);
-    }
-    None
 }
 
 // The words that the program was called with, the program's own first. A word that is no text is a bad word.

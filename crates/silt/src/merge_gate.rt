@@ -14,7 +14,7 @@ use silt_jobs::{Tells, Urgent, merge_damage_at, shard_path};
 use silt_session::Board;
 use silt_store_set::Core;
 use silt_words::Service;
-use std::alloc::AllocError;
+use std::alloc::{AllocError, Global};
 use std::net::{Net, SocketAddr, TcpListener, TcpStream};
 use std::sync::atomic::{AtomicBool, Ordering};
 use std::sync::{OnceLock, Wait};
@@ -32,22 +32,31 @@ fn least_merged(asked: Option<u32>, hashes: u32) -> u32
     asked.unwrap_or((hashes / 2).max(1))
 }
 
-// The path of a store's file, or of that shard of the set of this name.
-fn path_of<H: AllocGlobal>(rt: &H, file: &str, shard: Option<u32>) -> Result<String, AllocError> {
+/// The path of a store's file, or of that shard of the set of this name.
+pub fn path_of(alloc: Global, file: &str, shard: Option<u32>) -> Result<String, AllocError> {
     match shard {
-        None => String::from_str(rt.alloc(), file),
-        Some(shard) => shard_path(rt.alloc(), file, shard),
+        None => String::from_str(alloc, file),
+        Some(shard) => shard_path(alloc, file, shard),
+    }
+}
+
+/// Tells people this of a store's file, or of that shard of the set of this name.
+pub fn tell_of<H: StandardStreams>(rt: &H, file: &str, shard: Option<u32>, urgent: &Urgent) {
+    let mut people = rt.errors();
+    match path_of(rt.alloc(), file, shard) {
+        Ok(path) => people.tell(path.as_str(), urgent),
+        Err(_) => people.tell(file, urgent),
     }
 }
 
 // Early syncs of a store's file, whose merges write so many bytes a step at most. None are made if out of memory.
-fn early_sync_of<H: AllocGlobal + StandardStreams>(
+fn early_sync_of<H: StandardStreams>(
     rt: &H,
     file: &str,
     shard: Option<u32>,
     step_len: usize,
 ) -> EarlySync {
-    match path_of(rt, file, shard) {
+    match path_of(rt.alloc(), file, shard) {
         Ok(path) => EarlySync::of(rt.open_beside(path.as_str()), step_len),
         Err(_) => EarlySync::of(None, step_len),
     }
@@ -84,9 +93,7 @@ impl GateParts {
             has_failed: OnceLock::new(),
         }
     }
-}
 
-impl GateParts {
     /// What the mergers may do while a backup is made.
     pub fn holds(&self) -> &MergeHolds {
         &self.holds
@@ -115,7 +122,7 @@ pub struct MergeGate<'a, 'f, 'b, 'p, H> {
     is_noted: OnceLock<()>,
 }
 
-impl<'a, 'f, 'b, 'p, H: AllocGlobal + Wait + StandardStreams> MergeGate<'a, 'f, 'b, 'p, H> {
+impl<'a, 'f, 'b, 'p, H: Wait + StandardStreams> MergeGate<'a, 'f, 'b, 'p, H> {
     /// The gate of a store of this file, or of that shard of the set of this name.
     pub fn new<D: Disk>(
         rt: &'a H,
@@ -172,11 +179,7 @@ impl<'a, 'f, 'b, 'p, H: AllocGlobal + Wait + StandardStreams> MergeGate<'a, 'f, 
 
     // Tells people what was found in the store's file.
     fn tell(&self, urgent: &Urgent) {
-        let mut people = self.rt.errors();
-        match path_of(self.rt, self.file, self.shard) {
-            Ok(path) => people.tell(path.as_str(), urgent),
-            Err(_) => people.tell(self.file, urgent),
-        }
+        tell_of(self.rt, self.file, self.shard, urgent);
     }
 }
 
@@ -205,13 +208,8 @@ impl<H: Clock + Wait> MergeGate<'_, '_, '_, '_, H> {
     }
 }
 
-impl<
-    H: Net<Listener = TcpListener, Stream = TcpStream>
-        + AllocGlobal
-        + Clock
-        + Wait
-        + StandardStreams,
-> Gate for MergeGate<'_, '_, '_, '_, H> {
+impl<H: Net<Listener = TcpListener, Stream = TcpStream> + Wait + StandardStreams> Gate
+    for MergeGate<'_, '_, '_, '_, H> {
     fn pass(&self, spot: Spot) {
         if spot == Spot::Merger {
             self.wait_for_backup();

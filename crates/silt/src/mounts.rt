@@ -1,6 +1,6 @@
 // The file systems that are mounted, as the system lists them, and which of them are known not to obey the crash model.
 ghost use Rattle.std.specs.Prelude.{◌≡◌, IfOk, map, option_map};
-ghost use Rattle.silt_wire.specs.Lines.{words_of};
+ghost use Rattle.silt.specs.Common.{words_of};
 ghost use Rattle.silt.specs.Mounts.{IsMountOf, hyphen_at, mount_on, named_mount, weakness_of, field_at};
 
 use std::alloc::{AllocError, Global};

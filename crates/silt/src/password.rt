@@ -1,7 +1,6 @@
 // The password that a server asks its clients for.
 ghost use Rattle.std.specs.Prelude.{◌≡◌, ◌==◌, IfOk, OnErr};
-ghost use Rattle.std.specs.List.{position};
-ghost use Rattle.sha1.specs.Sha1.{sha1};
+ghost use Rattle.silt.specs.Common.{position, sha1};
 ghost use Rattle.silt.specs.Passwords.{CanBeSent, IsPassword, ReadsLine, ReadsPassword, first_line};
 
 use crate::standard_streams::StandardStreams;
@@ -9,8 +8,8 @@ use sha1::Sha1;
 use silt_resp::LONGEST_WORD;
 use std::io::{self, ErrorKind};
 
-// Where the first line feed is.
-fn feed_at(bytes: &[u8]) -> Option<usize>
+/// Where the first line feed is.
+pub fn feed_at(bytes: &[u8]) -> Option<usize>
     ensures { result ≡ position (λ b. b == 10) bytes.now }
 {
     bytes.iter().position(|byte| *byte == b'\n')
@@ -73,7 +72,7 @@ pub fn read_password<H: StandardStreams>(rt: &H, path: &str) -> io::Result<[u8; 
 /// # Errors
 ///
 /// As those of [`read_password`], and out of memory.
-pub fn password_at<H: AllocGlobal + StandardStreams>(rt: &H, path: &str) -> io::Result<Vec<u8>>
+pub fn password_at<H: StandardStreams>(rt: &H, path: &str) -> io::Result<Vec<u8>>
     ensures { IfOk result (λ line. ReadsLine (H.begins rt.now) path.now line.items) }
 {
     let mut buffer = [0u8; LONGEST_WORD + 2];

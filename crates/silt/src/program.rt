@@ -22,17 +22,10 @@ use std::io::Write;
 use std::net::{Net, TcpListener, TcpStream};
 use std::sync::Wait;
 use std::thread::Threads;
-use std::time::Clock;
 
 impl<H, S> Machine<'_, H, S>
 where
-    H: Net<Listener = TcpListener, Stream = TcpStream>
-        + AllocGlobal
-        + Clock
-        + Threads
-        + Wait
-        + Sync
-        + StandardStreams,
+    H: Net<Listener = TcpListener, Stream = TcpStream> + Threads + Wait + StandardStreams,
     S: DiskSources,
     S::Disk: Tended + Watched,
 {

@@ -1,12 +1,9 @@
 // The server on the disk of a path.
 ghost use Rattle.std.specs.Prelude.{◌≡◌, ◌⊎◌, ◌<◌, ◌≤◌, None, Ok, IfOk, IfSome, IsOkAnd, is_some, false, true, unwrap_or};
-ghost use Rattle.silt_desk.specs.Servings.{LeavesCalls};
+ghost use Rattle.silt.specs.Common.{LeavesCalls, PrintsNotServed, HasFailed, named_access};
 ghost use Rattle.silt_wire.specs.Statuses.{IsStatus};
-ghost use Rattle.silt_server.specs.Serving.{PrintsNotServed};
-ghost use Rattle.silt_jobs.specs.Ended.{HasFailed};
 ghost use Rattle.silt.specs.Services.{EndsServe, ServesDisk, ServesFile, ServesOpened, TellsEntrance, protocol_of};
 ghost use Rattle.silt.specs.Passwords.{HasPassword};
-ghost use Rattle.silt_words.specs.Jobs.{named_access};
 
 use crate::care::Care;
 use crate::listener::{Entrance, PatientListener, enter, tell_no_entrance};
@@ -28,7 +25,6 @@ use std::io::{self, Write};
 use std::net::{Net, SocketAddr, TcpListener, TcpStream};
 use std::sync::Wait;
 use std::thread::Threads;
-use std::time::Clock;
 
 /// How many clients are served at once if no number is given.
 const CLIENTS: u32 = 64;
@@ -38,13 +34,7 @@ const CLIENTS: u32 = 64;
 /// opened, the network fails, the store has failed, or a merge was refused.
 pub fn serve_file<
     S: DiskSource,
-    H: Net<Listener = TcpListener, Stream = TcpStream>
-        + AllocGlobal
-        + Clock
-        + Threads
-        + Wait
-        + Sync
-        + StandardStreams,
+    H: Net<Listener = TcpListener, Stream = TcpStream> + Threads + Wait + StandardStreams,
     W: Write,
     T: Tells,
 >(
@@ -70,13 +60,7 @@ where
 // may be long: so a port that is in use is told of at once. Returns the disk, and how the job ended.
 fn serve_disk<
     S: DiskSource,
-    H: Net<Listener = TcpListener, Stream = TcpStream>
-        + AllocGlobal
-        + Clock
-        + Threads
-        + Wait
-        + Sync
-        + StandardStreams,
+    H: Net<Listener = TcpListener, Stream = TcpStream> + Threads + Wait + StandardStreams,
     W: Write,
     T: Tells,
 >(
@@ -125,13 +109,7 @@ pub fn entrance_of<H: Net<Listener = TcpListener, Stream = TcpStream> + Standard
 fn serve_opened<
     E: Drop,
     D: Watched,
-    H: Net<Listener = TcpListener, Stream = TcpStream>
-        + AllocGlobal
-        + Clock
-        + Threads
-        + Wait
-        + Sync
-        + StandardStreams,
+    H: Net<Listener = TcpListener, Stream = TcpStream> + Threads + Wait + StandardStreams,
     W: Write,
 >(
     rt: &H,
@@ -147,27 +125,17 @@ fn serve_opened<
     if has_few_regions(&core, service.merge_at) {
         return refuse_few_regions(rt.alloc(), core, writer);
     }
-    if has_short_values(&core, service.resp) {
+    if are_short(core.geometry().value_len(), service.resp) {
         let ended = Ended::refuse(rt.alloc(), Why::ShortValues, writer);
         return (core.close(), ended);
     }
     let (disk, status, why) = serve_store(rt, core, entrance, service, writer);
-    let failures = Failures::of(&disk);
     let ended = Ended {
-        status,
         why,
-        found: None,
-        failures,
+        failures: Failures::of(&disk),
+        ..Ended::plain(status)
     };
     (disk, ended)
-}
-
-// Whether the values of a store for Redis clients have no room for a string's length.
-fn has_short_values<D: Disk>(core: &Core<D>, resp: bool) -> bool
-    ensures short { result ≡ true → (resp ≡ true) × (core.now.shape.value_len < 2) }
-    ensures enough { result ≡ false → resp ≡ true → 2 ≤ core.now.shape.value_len }
-{
-    are_short(core.geometry().value_len(), resp)
 }
 
 /// Whether values of this length, for Redis clients, have no room for a string's length.
@@ -186,13 +154,7 @@ pub fn are_short(value_len: u32, resp: bool) -> bool
 fn serve_store<
     E: Drop,
     D: Viewed,
-    H: Net<Listener = TcpListener, Stream = TcpStream>
-        + AllocGlobal
-        + Clock
-        + Threads
-        + Wait
-        + Sync
-        + StandardStreams,
+    H: Net<Listener = TcpListener, Stream = TcpStream> + Threads + Wait + StandardStreams,
     W: Write,
 >(
     rt: &H,

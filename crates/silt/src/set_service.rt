@@ -1,12 +1,7 @@
 // The server on the files of a set.
 ghost use Rattle.std.specs.Prelude.{◌≡◌, ◌≤◌, All, IfOk, is_some, length, map, unwrap_or, vec_len, Some};
-ghost use Rattle.std.specs.List.{range_with_len};
-ghost use Rattle.silt_disk.specs.Layout.{Shape};
-ghost use Rattle.silt_store_set.specs.CoreInvariant.{LeavesBegun};
-ghost use Rattle.silt_shards.specs.Routing.{IsShardCount, most_shards};
+ghost use Rattle.silt.specs.Common.{range_with_len, Shape, LeavesBegun, IsShardCount, most_shards, LeavesEach, HasFailed};
 ghost use Rattle.silt_shards.specs.Sets.{AreAlike};
-ghost use Rattle.silt_server.specs.Serving.{LeavesEach};
-ghost use Rattle.silt_jobs.specs.Ended.{HasFailed};
 ghost use Rattle.silt.specs.Services.{least_merged};
 ghost use Rattle.silt.specs.SetServices.{FailedAmong, RefusesFault, ServesDisks, ServesEntered, ServesSet, ServesShards};
 
@@ -31,7 +26,6 @@ use std::io::Write;
 use std::net::{Net, TcpListener, TcpStream};
 use std::sync::Wait;
 use std::thread::Threads;
-use std::time::Clock;
 
 /// Serves the stores in the files of a set, as one store, to the connections of a port. It opens all files before it binds the port, and
 /// then compares their marks and opens the stores. Returns the disks that were served, in the order of their shards, and how the job
@@ -39,13 +33,7 @@ use std::time::Clock;
 /// not the shard that is due, the network fails, a store has failed, or a merge was refused. A set has no record of its calls.
 pub fn serve_set<
     S: DiskSources,
-    H: Net<Listener = TcpListener, Stream = TcpStream>
-        + AllocGlobal
-        + Clock
-        + Threads
-        + Wait
-        + Sync
-        + StandardStreams,
+    H: Net<Listener = TcpListener, Stream = TcpStream> + Threads + Wait + StandardStreams,
     W: Write,
     T: Tells,
 >(
@@ -78,13 +66,7 @@ where
 // Serves the set on these disks to the connections of a port. It binds the port before the opening, which may be long.
 fn serve_disks<
     S: DiskSources,
-    H: Net<Listener = TcpListener, Stream = TcpStream>
-        + AllocGlobal
-        + Clock
-        + Threads
-        + Wait
-        + Sync
-        + StandardStreams,
+    H: Net<Listener = TcpListener, Stream = TcpStream> + Threads + Wait + StandardStreams,
     W: Write,
     T: Tells,
 >(
@@ -141,13 +123,7 @@ fn refuse_shard<E: Drop, D: Disk, W: Write>(
 fn serve_shards<
     E: Drop,
     D: Watched,
-    H: Net<Listener = TcpListener, Stream = TcpStream>
-        + AllocGlobal
-        + Clock
-        + Threads
-        + Wait
-        + Sync
-        + StandardStreams,
+    H: Net<Listener = TcpListener, Stream = TcpStream> + Threads + Wait + StandardStreams,
     W: Write,
 >(
     rt: &H,
@@ -184,13 +160,7 @@ fn serve_shards<
 fn serve_entered<
     E: Drop,
     D: Watched,
-    H: Net<Listener = TcpListener, Stream = TcpStream>
-        + AllocGlobal
-        + Clock
-        + Threads
-        + Wait
-        + Sync
-        + StandardStreams,
+    H: Net<Listener = TcpListener, Stream = TcpStream> + Threads + Wait + StandardStreams,
     W: Write,
 >(
     rt: &H,
@@ -227,12 +197,10 @@ fn serve_entered<
     let (disks, status) = server.serve(cores, writer);
     let why = listener_fault(entrance.socket, listener.failure(), &status);
     let status = status_served(status, are_noted(gates.as_slice()));
-    let failures = failures_among(disks.as_slice());
     let ended = Ended {
-        status,
         why,
-        found: None,
-        failures,
+        failures: failures_among(disks.as_slice()),
+        ..Ended::plain(status)
     };
     (disks, ended)
 }
@@ -246,7 +214,7 @@ fn places_of(service: &Service<'_>, shards: usize) -> u32
 }
 
 // The gates of the workers of these stores, which are the shards of a set.
-fn gates_of<'a, 'f, 'b, 'p, D: Disk, H: AllocGlobal + Wait + StandardStreams>(
+fn gates_of<'a, 'f, 'b, 'p, D: Disk, H: Wait + StandardStreams>(
     rt: &'a H,
     file: &'f str,
     board: &'b Board,
@@ -268,9 +236,7 @@ fn gates_of<'a, 'f, 'b, 'p, D: Disk, H: AllocGlobal + Wait + StandardStreams>(
 }
 
 // Whether a merge of one of the stores was refused, or a store has failed.
-fn are_noted<H: AllocGlobal + Wait + StandardStreams>(
-    gates: &[MergeGate<'_, '_, '_, '_, H>],
-) -> bool {
+fn are_noted<H: Wait + StandardStreams>(gates: &[MergeGate<'_, '_, '_, '_, H>]) -> bool {
     for gate in gates {
         if gate.is_noted() {
             return true;

@@ -1,7 +1,7 @@
 // The standard streams: their descriptors are in use before a store is opened, and no store is one of them.
-ghost use Rattle.std.specs.Prelude.{◌≡◌, ◌≤◌, ℕ, List, None, IfOk, codes, length, take};
-ghost use Rattle.silt.specs.Streams.{FillsLow, IsLowOrLast, first_stream, null_device};
+ghost use Rattle.std.specs.Prelude.{◌≡◌, ◌≤◌, ℕ, List, None, IfOk, length, take};
 ghost use Rattle.silt.specs.declared.standard_streams.SameStreams.{SameStreams as SameStreamsOf};
+ghost use Rattle.silt.specs.Streams.{FillsLow, IsLowOrLast, first_stream, null_device};
 
 use crate::file_identity::identity_at;
 use silt_device::{FileDisk, FileSystem};
@@ -13,6 +13,7 @@ use std::os::fd::{AsRawFd, RawFd};
 use std::os::unix::fs::symlink;
 use std::path::Path;
 use std::rt::Runtime;
+use std::time::Clock;
 
 /// The device that takes everything and gives nothing.
 pub const NULL_DEVICE: &str = "/dev/null";
@@ -89,8 +90,8 @@ pub fn not_its_link() -> io::Error {
     )
 }
 
-/// A program with standard streams, and with files beside those of its stores.
-pub trait StandardStreams {
+/// A program with standard streams, and with files beside those of its stores. It has memory and a clock, and its threads share it.
+pub trait StandardStreams: AllocGlobal + Clock + Sync {
     /// The system reported that these streams are the file of this path, and no others.
     ghost are_file: { Self → List ℕ → SameStreamsOf → Type 0 };
 
@@ -213,17 +214,10 @@ impl StandardStreams for HostRuntime {
 
     // A path below /proc/self/fd means the open file itself, whatever its name. A system without /proc shows no clash.
     fn streams_at(&self, path: &str) -> SameStreams {
-        match identity_at(self, path) {
-            Some(file) => SameStreams {
-                input: identity_at(self, "/proc/self/fd/0") == Some(file),
-                output: identity_at(self, "/proc/self/fd/1") == Some(file),
-                error: identity_at(self, "/proc/self/fd/2") == Some(file),
-            },
-            None => SameStreams {
-                input: false,
-                output: false,
-                error: false,
-            },
+        SameStreams {
+            input: self.is_same_file(path, "/proc/self/fd/0"),
+            output: self.is_same_file(path, "/proc/self/fd/1"),
+            error: self.is_same_file(path, "/proc/self/fd/2"),
         }
     }
 

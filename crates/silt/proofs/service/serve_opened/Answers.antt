@@ -11,19 +11,16 @@ pub returns-then-has_few_regions-clause-led : goal.returns-then-has_few_regions-
 returns-then-has_few_regions-clause-led g c =
     leaves_none g.D.Disk c.args.core c.refuse_few_regions.result.0 c.refuse_few_regions.ensures.disk c.standing-known.ensures.has_map c.standing-known.ensures.few c.standing-known.ensures.begun
 
-pub returns-then-has_short_values-clause-served : goal.returns-then-has_short_values-clause-served
-returns-then-has_short_values-clause-served g c =
-    let short = c.has_short_values.ensures.short c.if-has_short_values.true in
-    inr (inl (c.close.ensures.disk, short.0, short.1, c.refuse-ended.ensures))
+pub returns-then-are_short-clause-served : goal.returns-then-are_short-clause-served
+returns-then-are_short-clause-served g c =
+    let short = c.are_short.ensures.short c.if-are_short.true in
+    inr (inl (c.close.ensures.disk, short.0, rw (c.value_len.ensures.value, c.geometry.ensures) at short.1, c.refuse-ended.ensures))
 
-pub returns-then-has_short_values-clause-led : goal.returns-then-has_short_values-clause-led
-returns-then-has_short_values-clause-led g c =
+pub returns-then-are_short-clause-led : goal.returns-then-are_short-clause-led
+returns-then-are_short-clause-led g c =
     leaves_none g.D.Disk c.args.core c.close.result c.close.ensures.disk c.standing-known.ensures.has_map c.standing-known.ensures.few c.standing-known.ensures.begun
 
 pub returns-clause-served : goal.returns-clause-served
 returns-clause-served g c =
-    inr (inr (
-      c.of-failures.ensures,
-      at_status _ _ _ _ c.serve_store-disk.result.1 c.serve_store-disk.ensures.printed c.serve_store-disk.ensures.bound
-          c.serve_store-disk.ensures.quiet c.serve_store-disk.ensures.served,
-    ))
+    let served = c.serve_store-disk.ensures in
+    rw (c.plain.ensures) (inr (inr (c.of.ensures, at_status _ _ _ _ c.serve_store-disk.result.1 served.printed served.bound served.quiet served.served)))
