@@ -164,7 +164,7 @@ fn held_between_steps<D: Disk, N: DeskId + Send + Sync, R: Threads + Wait + Cloc
     requires accepted { (accepted.name ≡ N.accepted_name) × (accepted.parts ≡ N.seats) }
     requires seats { N.seats ≡ 2 }
 {
-    let (shared, mut seats) = seated::<D, N>(alloc, core, 100, 2, calls, accepted)?;
+    let (shared, mut seats) = seated::<D, N>(alloc, core, 200, 2, calls, accepted)?;
     let found = beside_conversion(rt, alloc, &shared, &mut seats);
     drop(shared);
     found
