@@ -1,9 +1,8 @@
 -- For the crates above: what calls on other parts of the disk leave of a log store, and how one store serves as another.
-use Rattle.std.proofs.Common.{◌≡◌, ℕ, ◌≤◌, IsTrue, refl, sym, ap, ◌∙◌, subst, inl, arith}
-use Rattle.silt_disk.specs.Disk.{ChangesWithin, Content, LiesOutside, Settles, size}
+use Rattle.std.proofs.Common.{◌≡◌, ℕ, ◌≤◌, IsTrue, sym, ◌∙◌, arith}
+use Rattle.silt_disk.specs.Disk.{ChangesWithin, Content, LiesOutside, size}
 use Rattle.silt_disk.specs.Layout.{device_size, commits_at, log_len}
-use Rattle.silt_disk.proofs.Images.{sync_within}
-use Rattle.silt_log.specs.Rows.{row_at, rows_from, first_rows}
+use Rattle.silt_log.specs.Rows.{row_at, rows_from}
 use Rattle.silt_log.specs.State.{LogState, InBounds, all_rows}
 use Rattle.silt_log.proofs.Elsewhere.{log_elsewhere, log_rows_elsewhere, outside_bodies, rows_elsewhere}
 use Rattle.silt_log.proofs.Exits.{region_lies}
@@ -21,8 +20,7 @@ rows_outside old new log at count bounds fits outside changes honest =
 -- so its store stays indexed
 pub index_elsewhere : (old new : Content) (store : LogStoreState) (at count : ℕ) → IsIndexed old store → InBounds store.log
     → device_size store.log.shape ≤ size old → LiesOutside (commits_at store.log.shape store.log.region) (log_len store.log.shape) at count → ChangesWithin at count old new → IsIndexed new store
-index_elsewhere old new store at count index bounds fits outside changes =
-    index_kept old new store store changes.honest index refl refl refl (rows_outside old new store.log at count bounds fits outside changes)
+index_elsewhere old new store at count index bounds fits outside changes = search (arith, index_kept, rows_outside)
 
 -- a store that takes rows still matches the disk
 pub store_elsewhere : (old new : Content) (store : LogStoreState) (at count : ℕ) → IsLogStore old store → device_size store.log.shape ≤ size old
@@ -40,22 +38,8 @@ frozen_elsewhere old new store at count is bounds fits outside changes = record 
     each = λ honest image left.
         let was = sym changes.honest ∙ honest in
         let before = changes.left was image left in
-        log_rows_elsewhere store.log.shape store.log.region at count before.0 image bounds.region (subst (λ n. device_size store.log.shape ≤ n) (old.sizes ∙ sym before.1.size) fits) outside before.2
-        ∙ is.images.each was before.0 before.1 ∙ sym (rows_outside old new store.log at count bounds fits outside changes was);
+        log_rows_elsewhere _ _ at count before.0 image bounds.region (rw ((old.sizes ∙ sym before.1.size)) at fits) outside before.2
+        ∙ is.images.each was before.0 before.1 ∙ sym (rows_outside old new _ at count bounds fits outside changes was);
   };
   index = index_elsewhere old new store at count is.index bounds fits outside changes;
-}
-
--- a sync leaves both
-pub store_synced : (old new : Content) (store : LogStoreState) → IsLogStore old store → device_size store.log.shape ≤ size old → size new ≡ size old → Settles old new → IsLogStore new store
-store_synced old new store is fits same settles = store_elsewhere old new store 0 0 is fits same (inl (omega arith)) (sync_within 0 0 settles)
-
-pub frozen_synced : (old new : Content) (store : LogStoreState) → IsFrozenStore old store → InBounds store.log → device_size store.log.shape ≤ size old → Settles old new → IsFrozenStore new store
-frozen_synced old new store is bounds fits settles = frozen_elsewhere old new store 0 0 is bounds fits (inl (omega arith)) (sync_within 0 0 settles)
-
--- a store with no waiting row may be frozen
-pub frozen_from : (content : Content) (store : LogStoreState) → IsLogStore content store → store.log.settled ≡ store.log.used → IsFrozenStore content store
-frozen_from content store is all = record {
-  images = record { each = λ honest image left. is.log.images.each honest image left ∙ ap (first_rows store.log.shape store.log.region content.shown) all };
-  index = is.index;
 }

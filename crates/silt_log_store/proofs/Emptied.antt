@@ -1,10 +1,8 @@
 -- The first key of a log store with no rows.
-use Rattle.std.proofs.Common.{◌≡◌, ℕ, ◌*◌, true, false, find, is_none, Option, Some, None, IsSome, option_map, refl, ap, ◌∙◌, arith}
-use Rattle.std.specs.List.{range_with_len}
+use Rattle.std.proofs.Common.{◌≡◌, ℕ, true, false, Option, Some, None, IsSome, option_map, refl, ap, ◌∙◌, arith}
 use Rattle.std.specs.Option.{is_some, option_and_then}
 use Rattle.silt_cuckoo.specs.Slots.{Entry, PlacesBelow, Slots, entry_at}
 use Rattle.silt_cuckoo.specs.Placing.{first_path, free_slot, path_for, placed, put_along, shortest_walk}
-use Rattle.silt_cuckoo.proofs.Search.{none_in_range}
 use Rattle.silt_log_store.specs.Placement.{entered, entered_under}
 use Rattle.silt_log_store.specs.declared.placement.Placing.{Placing}
 
@@ -19,14 +17,7 @@ no_entry table slot below = go (entry_at table slot) refl
 -- so the first slot of a bucket is free
 has_free : (table : Slots) (bucket : ℕ) → PlacesBelow table 0 → IsSome (free_slot table bucket)
 unfolding free_slot
-has_free table bucket below = go (find (λ slot. is_none (entry_at table slot)) (range_with_len (4 * bucket) 4)) refl
-  where
-    go : (o : Option ℕ) → find (λ slot. is_none (entry_at table slot)) (range_with_len (4 * bucket) 4) ≡ o → IsSome o
-    go (Some slot) is = refl
-    go None is =
-        let taken = none_in_range (λ slot. is_none (entry_at table slot)) (4 * bucket) 4 is (4 * bucket) (omega arith) (omega arith) in
-        let none = no_entry table (4 * bucket) below in
-        absurd (let clash : is_none (entry_at table (4 * bucket)) ≡ true = rw none refl in cc)
+has_free table bucket below = grind (arith, no_entry)
 
 -- a key is placed in it
 is_placed : (table : Slots) (first second place : ℕ) → PlacesBelow table 0 → IsSome (placed table first second place)

@@ -1,5 +1,5 @@
 -- The law of the entries of a table.
-use Rattle.std.proofs.Common.{◌≡◌, ℕ, ◌/◌, List, [], get_or, Some, option_map, sym, ap, ◌∙◌}
+use Rattle.std.proofs.Common.{◌≡◌, ℕ, ◌/◌, List, [], get_or, Some, option_map, ap}
 use Rattle.silt_cuckoo.specs.Slots.{Slots, Entry, entry_at, place_at}
 use Rattle.silt_cuckoo.specs.Pairs.{pair_of}
 use Rattle.silt_cuckoo.specs.Keys.{key_pair}
@@ -20,8 +20,7 @@ entries_of slots buckets keys index = record {
   buckets_of = λ slot tag place is.
       let held : place_at slots slot ≡ Some place = held_of slots slot tag place is in
       let pair : Some (pair_of (slot / 4) tag) ≡ Some (key_pair buckets (get_or keys place [])) =
-      sym (table_pairs-held slots slot place index.table.places_apart held ∙ ap (option_map (λ (e : Entry). pair_of (slot / 4) e.0)) is)
-      ∙ index.newest place (index.no_other place (slot, held)) in
+      cc (table_pairs-held slots slot place index.table.places_apart held, index.newest place (index.no_other place (slot, held))) in
       cc;
   held = λ place newest. holds_from_pair slots place (key_pair buckets (get_or keys place [])) (index.newest place newest);
   once = λ place slot other held also. index.table.places_apart other slot place also held;

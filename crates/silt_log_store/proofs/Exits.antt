@@ -1,35 +1,32 @@
 -- The state at the exits of the calls of a log store.
-use Rattle.std.proofs.Common.{◌≡◌, ◌↔◌, ℕ, ◌+◌, ◌-◌, ◌<◌, ◌≤◌, true, false, List, [], ◌∷◌, ◌++◌, Option, Some, None, IsTrue, IsSome, IfSome, inl, inr, option_map, refl, sym, subst, ap, ◌∙◌, arith}
-use Rattle.std.specs.List.{list_all}
+use Rattle.std.proofs.Common.{◌≡◌, ◌↔◌, ℕ, ◌+◌, ◌-◌, ◌<◌, ◌≤◌, true, false, List, [], ◌∷◌, ◌++◌, Option, Some, None, IsTrue, IsSome, IfSome, inl, inr, option_map, refl, sym, subst, ap, ◌∙◌}
+use Rattle.std.proofs.Common.{arith}
 use Rattle.std.specs.Option.{is_some, option_and_then}
 use Rattle.silt_disk.specs.Disk.{Content, ChangesWithin, size}
 use Rattle.silt_disk.specs.Layout.{device_size, commits_at}
 use Rattle.silt_frame.specs.declared.key.Key.{Key}
 use Rattle.silt_frame.specs.declared.key.Kind.{Kind}
-use Rattle.silt_cuckoo.specs.Slots.{Entry, Slots, IsBucketCount, IsTable, PlacesBelow, bucket_count, empty_slots, entry_at, place_at}
+use Rattle.silt_cuckoo.specs.Slots.{Slots, IsBucketCount, IsTable, PlacesBelow, bucket_count, empty_slots, entry_at, place_at}
 use Rattle.silt_cuckoo.specs.Keys.{first_bucket, second_bucket}
 use Rattle.silt_cuckoo.specs.Lookup.{candidates_of}
-use Rattle.silt_cuckoo.specs.Index.{Indexes, index_of_keys, indexed, placed_or_replaced, slot_of_key}
-use Rattle.silt_cuckoo.specs.declared.lookup.Candidate.{Candidate}
-use Rattle.silt_cuckoo.specs.Placing.{placed, put_along}
+use Rattle.silt_cuckoo.specs.Index.{Indexes, index_of_keys, indexed, placed_or_replaced}
+use Rattle.silt_cuckoo.specs.Placing.{placed}
 use Rattle.silt_cuckoo.proofs.Indexing.{index_law}
 use Rattle.silt_log.specs.Rows.{row_at, rows_from}
-use Rattle.silt_frame.specs.Rows.{has_known_kind, stored_row, StoredRow, keys_of, put_count, puts_of}
+use Rattle.silt_frame.specs.Rows.{stored_row, keys_of, puts_of}
 use Rattle.silt_log.specs.State.{LogState, InBounds, all_rows}
 use Rattle.silt_log.specs.Calls.{Empties, Appends, OpensSome}
 use Rattle.silt_log.proofs.Elsewhere.{all_count}
 use Rattle.silt_log.proofs.Exits.{region_lies}
 use Rattle.silt_log.proofs.Standing.{commits_torn_rows}
 use Rattle.silt_log_store.specs.State.{LogStoreState, IsHeldStore, IsIndexed, IsLogStore}
-use Rattle.silt_log_store.specs.Calls.{CanTake, EmptiesStore, IsFullFor, IsPlacingFor, OpensSomeOfStore, TakesRow}
+use Rattle.silt_log_store.specs.Calls.{EmptiesStore, IsFullFor, IsPlacingFor, OpensSomeOfStore, TakesRow}
 use Rattle.silt_log_store.specs.LastRow.{FindsLast}
 use Rattle.silt_log_store.specs.Lookup.{IsFirstMatch, has_candidate}
 use Rattle.silt_log_store.specs.declared.lookup.Match.{Match}
 use Rattle.silt_log_store.specs.Placement.{HoldsIn, entered, entered_under}
 use Rattle.silt_log_store.specs.declared.placement.Placing.{Placing}
-use Rattle.silt_log_store.specs.declared.placement.Placing.TheVariants.{Standing, New}
 use Rattle.silt_log_store.proofs.Finds.{standing_is, match_is_last, none_is_none, next_table}
-use Rattle.silt_log.proofs.KindBytes.{byte_of_kind}
 use Rattle.silt_log_store.proofs.Matches.{no_match}
 use Rattle.silt_log_store.proofs.Rows.{keys_count, keys_push, known_push, puts_push}
 
@@ -63,21 +60,19 @@ module _ (content : Content) (store : LogStoreState) (key : List ℕ) (held : Is
 
   -- no candidate: no row
   pub find_no_candidate : false ≡ has_candidate store.table key → FindsLast (all_rows content store.log) key None
-  find_no_candidate lacks =
-      let candidates : List Candidate = candidates_of store.table (first_bucket (bucket_count store.table) key) (second_bucket (bucket_count store.table) key) in
-      find_none (no_match (all_rows content store.log) candidates key lacks)
+  find_no_candidate lacks = grind (arith, find_none, no_match)
 
   -- the table with the key is what the placing rule makes of it
   pub table_with_key : (found : Option Match) → IsMatchIn content store key found
       → index_of_keys store.log.shape.buckets (keys_of (all_rows content store.log) ++ key ∷ [])
       ≡ placed_or_replaced (bucket_count store.table) store.table key store.log.used (option_map (λ (m : Match). m.slot) found)
-  table_with_key found first =
-      next_table store.log.shape.buckets (keys_of (all_rows content store.log)) store.table key (index.indexed honest)
-      ∙ ap (λ n. placed_or_replaced store.log.shape.buckets store.table key n (slot_of_key (keys_of (all_rows content store.log)) store.table key))
-      (keys_count (all_rows content store.log) ∙ all_count content store.log)
-      ∙ ap (placed_or_replaced store.log.shape.buckets store.table key store.log.used)
-      (sym (standing_is (all_rows content store.log) store.table store.log.shape.buckets key store_indexes found (match_by_shape found first)))
-      ∙ ap (λ n. placed_or_replaced n store.table key store.log.used (option_map (λ (m : Match). m.slot) found)) (sym held.count)
+  table_with_key found first = cc (
+    next_table store.log.shape.buckets (keys_of (all_rows content store.log)) store.table key (index.indexed honest),
+    keys_count (all_rows content store.log),
+    all_count content store.log,
+    standing_is (all_rows content store.log) store.table store.log.shape.buckets key store_indexes found (match_by_shape found first),
+    held.count,
+  )
 
 -- ---- the table after each call
 
@@ -85,35 +80,13 @@ module _ (content : Content) (store : LogStoreState) (key : List ℕ) (held : Is
 pub index_kept : (old new : Content) (before after : LogStoreState) → new.honest ≡ old.honest → IsIndexed old before
     → after.table ≡ before.table → after.puts ≡ before.puts → after.log.shape ≡ before.log.shape
     → (IsTrue old.honest → all_rows new after.log ≡ all_rows old before.log) → IsIndexed new after
-index_kept old new before after same index table puts shape all = record {
-  known = λ honest. let was = sym same ∙ honest in ap (list_all has_known_kind) (all was) ∙ index.known was;
-  indexed = λ honest.
-      let was = sym same ∙ honest in
-      ap (λ s. index_of_keys s.buckets (keys_of (all_rows new after.log))) shape ∙ ap (λ rows. index_of_keys before.log.shape.buckets (keys_of rows)) (all was)
-      ∙ index.indexed was ∙ ap Some (sym table);
-  counted = λ honest. let was = sym same ∙ honest in puts ∙ index.counted was ∙ ap put_count (sym (all was));
-}
+index_kept old new before after same index table puts shape all = grind arith
 
 -- a store whose log was prepared, whose table is empty, and which counts no puts
 pub empties_store : (new : Content) (store : LogStoreState) (log : LogState) → Empties new store.log log
     → store.table ≡ empty_slots store.log.shape.buckets → store.puts ≡ 0 → EmptiesStore new store (record { log = log; table = store.table; puts = store.puts })
 unfolding rows_from
-empties_store new store log empties empty no_puts =
-    let none : all_rows new log ≡ [] = ap (λ (l : LogState). all_rows new l) empties.log in
-    let shape : log.shape ≡ store.log.shape = ap (λ (l : LogState). l.shape) empties.log in
-    record {
-      log = empties;
-      table = refl;
-      puts = refl;
-      stands = record {
-        log = empties.stands;
-        index = record {
-          known = λ honest. ap (list_all has_known_kind) none;
-          indexed = λ honest. ap (λ rows. index_of_keys log.shape.buckets (keys_of rows)) none ∙ ap (λ s. index_of_keys s.buckets []) shape ∙ index_none store.log.shape.buckets ∙ ap Some (sym empty);
-          counted = λ honest. no_puts ∙ ap put_count (sym none);
-        };
-      };
-    }
+empties_store new store log empties empty no_puts = grind (arith, index_none)
 
 -- a store whose log took a row, with the key in the table, and one put more if the row is one
 pub takes_row : (old new : Content) (store : LogStoreState) (log : LogState) (table : Slots) (puts : ℕ) (kind : Kind) (key : Key) (value : List ℕ) (placing : Placing)
@@ -121,55 +94,23 @@ pub takes_row : (old new : Content) (store : LogStoreState) (log : LogState) (ta
     → IsPlacingFor old store key.0 placing → puts ≡ store.puts + puts_of kind
     → entered store.table placing store.log.used ≡ Some table
     → Appends (stored_row kind key value) old new store.log log → TakesRow kind key value old new store (record { log = log; table = table; puts = puts })
-takes_row old new store log table puts kind key value placing same index at more placed appends =
-    let row : StoredRow = stored_row kind key value in
-    let rows : List StoredRow = all_rows old store.log in
-    let shape : log.shape ≡ store.log.shape = ap (λ (l : LogState). l.shape) appends.log in
-    record {
-      log = appends;
-      puts = more;
-      stands = record {
-        log = appends.stands;
-        index = record {
-          known = λ honest.
-              let was = sym same ∙ honest in
-              ap (list_all has_known_kind) (appends.all was) ∙ known_push rows row (index.known was) (ap is_some (byte_of_kind kind));
-          indexed = λ honest.
-              let was = sym same ∙ honest in
-              ap (λ s. index_of_keys s.buckets (keys_of (all_rows new log))) shape
-              ∙ ap (λ all. index_of_keys store.log.shape.buckets (keys_of all)) (appends.all was)
-              ∙ ap (index_of_keys store.log.shape.buckets) (keys_push rows row)
-              ∙ at.table was index
-              ∙ placed;
-          counted = λ honest.
-              let was = sym same ∙ honest in
-              more ∙ ap (λ n. n + puts_of kind) (index.counted was) ∙ sym (puts_push rows row kind (byte_of_kind kind)) ∙ ap put_count (sym (appends.all was));
-        };
-      };
-    }
+takes_row old new store log table puts kind key value placing same index at more placed appends = grind (arith, known_push, keys_push, puts_push)
 
 -- the slot of a match has an entry
 pub standing_stands : (slots : Slots) (found : Option Match) → IfSome found (λ (m : Match). place_at slots m.slot ≡ Some m.found.place)
     → IfSome (option_map (λ (m : Match). m.slot) found) (λ slot. IsSome (entry_at slots slot))
-standing_stands slots None there = tt
-standing_stands slots (Some m) there = go (entry_at slots m.slot) there
-  where
-    go : (o : Option Entry) → option_map (λ (e : Entry). e.1) o ≡ Some m.found.place → IsSome o
-    go None is = absurd (cc)
-    go (Some e) is = refl
+standing_stands slots found there = grind arith
 
 -- a table takes an entry at a placing that holds in it
 pub holds_enters : (table : Slots) (placing : Placing) (place : ℕ) → HoldsIn table placing → IsSome (entered table placing place)
 unfolding placed
-holds_enters table (Standing slot) place holds = refl
-holds_enters table (New path) place holds = ap (λ (o : Option (List ℕ)). is_some (option_map (put_along table path.first path.second place) o)) holds.path
+holds_enters table placing place holds = grind arith
 
 -- what the placing rule makes of a key is what it makes of its two buckets
 pub under_buckets : (buckets first second place : ℕ) (table : Slots) (key : List ℕ) (standing older : Option ℕ) → first ≡ first_bucket buckets key
     → second ≡ second_bucket buckets key → standing ≡ older
     → entered_under table first second place standing ≡ placed_or_replaced buckets table key place older
-under_buckets buckets first second place table key None older first_is second_is same = rw (first_is, second_is, ← same) refl
-under_buckets buckets first second place table key (Some slot) older first_is second_is same = rw (← same) refl
+under_buckets buckets first second place table key standing older first_is second_is same = grind arith
 
 -- the placings that are planned for a key once its older row is looked up
 abbrev pub IsPlannedFor : LogStoreState → List ℕ → Option Match → Option Placing → Type 0
@@ -213,27 +154,13 @@ pub placing_exactly : (content : Content) (store : LogStoreState) (key : List �
     → (placing : Option Placing) → IfSome placing (IsPlacingFor content store key)
     → ((placing ≡ None) ↔ IsFullFor content store key)
     → IsTrue (is_some placing) ↔ ((store.log.used < store.log.shape.log_capacity) × IsSome (index_of_keys store.log.shape.buckets (keys_of (all_rows content store.log) ++ key ∷ [])))
-placing_exactly content store key honest index None some none = (
-  λ yes. absurd (cc),
-  λ takes. absurd (elim (none.0 refl) [
-    | inl full ↦ omega (arith, full, takes.0)
-    | inr gone ↦ let is = takes.1 in let not_is = ap is_some gone in cc
-  ]),
-)
-placing_exactly content store key honest index (Some placing) some none = (λ _. (some.room, some.takes honest index), λ _. refl)
+placing_exactly content store key honest index placing some none = grind arith
 
 -- and then the log has room
 pub placing_room : (content : Content) (store : LogStoreState) (key : List ℕ) (placing : Option Placing) → IfSome placing (IsPlacingFor content store key)
     → IsTrue (is_some placing) → store.log.used < store.log.shape.log_capacity
 placing_room content store key None some answered = absurd (cc)
 placing_room content store key (Some placing) some answered = some.room
-
--- a row can be taken if its key has a placing
-pub placing_can : (content : Content) (store : LogStoreState) (key : List ℕ) (answer : Option Placing) (placing : Placing)
-    → answer ≡ Some placing → IsLogStore content store → IfSome answer (IsPlacingFor content store key) → CanTake content store key
-placing_can content store key answer placing some is found =
-    let at = subst (λ (o : Option Placing). IfSome o (IsPlacingFor content store key)) some found in
-    record { room = at.room; placed = λ honest. at.takes honest is.index }
 
 -- a change of commit bytes alone leaves the rows that are shown
 pub commits_leave_rows : (old new : Content) (log : LogState) (from count : ℕ) → InBounds log → device_size log.shape ≤ size old
@@ -255,19 +182,12 @@ opens_some old new store log fits is changes opens =
     record {
       store = ap (λ (l : LogState). let made : LogStoreState = record { log = l; table = store.table; puts = store.puts } in made) opens.log;
       log = opens;
-      index = index_kept old new store (record { log = log; table = store.table; puts = store.puts }) changes.honest is.index refl refl (ap (λ (l : LogState). l.shape) opens.log)
-          (λ honest. ap (all_rows new) opens.log ∙ commits_leave_rows old new store.log store.log.settled (store.log.used - store.log.settled)
-          bounds fits (omega (arith, bounds.order, bounds.room)) changes honest);
+      index = index_kept old new store _ changes.honest is.index refl refl (ap (λ (l : LogState). l.shape) opens.log) (λ honest. ap (all_rows new) opens.log ∙
+          commits_leave_rows old new _ _ _ bounds fits (omega (arith, bounds.order, bounds.room)) changes honest);
     }
 
 -- the invariant of every store holds after it took a row
 pub held_after : (store : LogStoreState) (log : LogState) (table : Slots) (puts place : ℕ) → IsHeldStore store → InBounds log
     → log ≡ record store.log { used = store.log.used + 1 } → IsTable table → bucket_count table ≡ bucket_count store.table
     → place ≡ store.log.used → PlacesBelow table (place + 1) → puts ≤ store.puts + 1 → IsHeldStore (record { log = log; table = table; puts = puts })
-held_after store log table puts place held bounds taken is_table count at below few = record {
-  bounds = bounds;
-  table = is_table;
-  count = count ∙ held.count ∙ ap (λ (l : LogState). l.shape.buckets) (sym taken);
-  below = subst (PlacesBelow table) (ap (λ n. n + 1) at ∙ ap (λ (l : LogState). l.used) (sym taken)) below;
-  most = omega (arith, held.most, few, ap (λ (l : LogState). l.used) taken);
-}
+held_after store log table puts place held bounds taken is_table count at below few = grind arith

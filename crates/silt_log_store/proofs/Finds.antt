@@ -1,6 +1,5 @@
 -- What the first match means for the last row of a key.
 use Rattle.std.proofs.Common.{◌≡◌, ◌≢◌, ◌⊎◌, ℕ, zero, suc, ◌<◌, List, [], ◌∷◌, ◌++◌, length, get_or, Option, Some, None, option_map, inl, inr, refl, sym, subst, ap, ◌∙◌, arith}
-use Rattle.std.specs.Option.{option_and_then}
 use Rattle.std.specs.Str.{bytes_eq}
 use Rattle.std.proofs.lemmas.Bool.{cases_Bool, cases_eq}
 use Rattle.std.proofs.lemmas.Slice.Eq.{bytes_eq-Decides}
@@ -76,9 +75,8 @@ module _ (rows : List StoredRow) (slots : Slots) (buckets : ℕ) (key : List ℕ
   -- a match is the key's last row
   pub match_is_last : (m : Match) → IsFirstMatch rows (candidates_of slots (first_bucket buckets key) (second_bucket buckets key)) key (Some m) → FindsLast rows key (Some m.found)
   match_is_last m first =
-      let it = found_passes (λ (c : Candidate). bytes_eq (get_or (keys_of rows) c.place []) key)
-      (candidates_of slots (first_bucket buckets key) (second_bucket buckets key)) (candidate_of m) (sym first.first) in
-      let stands : Stands slots (candidate_of m) = all_contained (Stands slots) _ (candidate_of m) (candidates_standing slots (first_bucket buckets key) (second_bucket buckets key)) it.1 in
+      let it = found_passes (λ (c : Candidate). bytes_eq (get_or (keys_of rows) c.place []) key) _ _ (sym first.first) in
+      let stands : Stands slots (candidate_of m) = all_contained (Stands slots) _ _ (candidates_standing slots _ _) it.1 in
       let newest = index.no_other m.found.place (m.slot, stands) in
       let same : get_or (keys_of rows) m.found.place [] ≡ key = (bytes_eq-Decides (get_or (keys_of rows) m.found.place []) key).0 it.0 in
       let row : StoredRow = first.kind.0 in (
@@ -98,5 +96,4 @@ module _ (rows : List StoredRow) (slots : Slots) (buckets : ℕ) (key : List ℕ
 -- the table with a further key
 pub next_table : (buckets : ℕ) (keys : List (List ℕ)) (slots : Slots) (key : List ℕ) → index_of_keys buckets keys ≡ Some slots
     → index_of_keys buckets (keys ++ key ∷ []) ≡ placed_or_replaced buckets slots key (length keys) (slot_of_key keys slots key)
-next_table buckets keys slots key is =
-    push_law buckets keys key ∙ ap (option_and_then (λ (s : Slots). placed_or_replaced buckets s key (length keys) (slot_of_key keys s key))) is
+next_table buckets keys slots key is = grind (arith, push_law)

@@ -1,5 +1,5 @@
 -- The rows of a log and their keys, by their numbers.
-use Rattle.std.proofs.Common.{◌≡◌, ℕ, ◌+◌, ◌<◌, ◌≤◌, Bool, true, ◌&&◌, cond, eqb, List, [], ◌∷◌, ◌++◌, length, map, take, get_or, slice_get, Some, inl, inr, refl, sym, ap, ◌∙◌, arith}
+use Rattle.std.proofs.Common.{◌≡◌, ℕ, ◌+◌, ◌<◌, ◌≤◌, Bool, true, List, [], ◌∷◌, ◌++◌, length, map, take, get_or, slice_get, Some, inl, inr, refl, sym, ap, ◌∙◌, arith}
 use Rattle.std.specs.List.{range_with_len, list_all}
 use Rattle.std.proofs.lemmas.Bool.{cases_Bool, false≢true}
 use Rattle.std.proofs.lemmas.List.{get_or-map, length-map, map_push}
@@ -15,7 +15,6 @@ use Rattle.silt_log.specs.Rows.{row_at, rows_from, first_rows}
 use Rattle.silt_frame.specs.Rows.{has_known_kind, StoredRow, keys_of, put_count, puts_of}
 use Rattle.silt_log.specs.State.{LogState, all_rows}
 use Rattle.silt_log.proofs.Elsewhere.{all_count, row_of_all}
-use Rattle.silt_log.proofs.KindBytes.{kind_counts}
 
 -- a row and its key
 pub key_of_row : (rows : List StoredRow) (place : ℕ) (row : StoredRow) → slice_get rows place ≡ Some row → get_or (keys_of rows) place [] ≡ row.key
@@ -48,21 +47,15 @@ passes_at p xs place x all is =
 -- the row of this number is of a known kind
 pub known_there : (content : Content) (log : LogState) (place : ℕ) → list_all has_known_kind (all_rows content log) ≡ true
     → place < log.used → has_known_kind (row_at log.shape log.region content.shown place) ≡ true
-known_there content log place known below = passes_at has_known_kind (all_rows content log) place (row_at log.shape log.region content.shown place) known (row_there content log place below)
+known_there content log place known below = passes_at has_known_kind _ place _ known (row_there content log place below)
 
 -- one row more is of a known kind
 pub known_push : (rows : List StoredRow) (row : StoredRow) → list_all has_known_kind rows ≡ true → has_known_kind row ≡ true → list_all has_known_kind (rows ++ row ∷ []) ≡ true
-known_push rows row known here = list_all-append has_known_kind rows (row ∷ []) ∙ both
-  where
-    both : (list_all has_known_kind rows && (has_known_kind row && true)) ≡ true
-    both = rw (known, here) refl
+known_push rows row known here = grind (arith, list_all-append)
 
 -- the puts of one row more
 pub puts_push : (rows : List StoredRow) (row : StoredRow) (kind : Kind) → kind_of row.kind ≡ Some kind → put_count (rows ++ row ∷ []) ≡ put_count rows + puts_of kind
-puts_push rows row kind is =
-    let last : cond (eqb row.kind 1) 1 0 ≡ puts_of kind = kind_counts row.kind kind is in
-    let all = sum_by-append (λ (r : StoredRow). cond (eqb r.kind 1) 1 0) rows (row ∷ []) in
-    omega (arith, all, last)
+puts_push rows row kind is = grind (arith, sum_by-append)
 
 -- the keys of one row more
 pub keys_push : (rows : List StoredRow) (row : StoredRow) → keys_of (rows ++ row ∷ []) ≡ keys_of rows ++ row.key ∷ []

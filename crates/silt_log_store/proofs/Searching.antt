@@ -34,6 +34,4 @@ all_contained P xs x all (k, low, at) = subst P at (all k x low)
 
 -- an element that is there does not depend on the default
 pub same_default : {X : Type 0} (xs : List X) (k : ℕ) (a b : X) → k < length xs → get_or xs k a ≡ get_or xs k b
-same_default xs k a b low =
-    let both : Some (get_or xs k a) ≡ Some (get_or xs k b) = sym (slice_get-get_or xs k a low) ∙ slice_get-get_or xs k b low in
-    cc
+same_default xs k a b low = grind (arith, slice_get-get_or)

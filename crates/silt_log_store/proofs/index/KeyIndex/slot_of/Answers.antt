@@ -1,4 +1,4 @@
-use Rattle.std.proofs.Common.{◌∙◌}
+use Rattle.std.proofs.Common.{◌∙◌, arith, rules}
 use Rattle.silt_log_store.proofs.Growth.{index_below, slot_is, slot_stands}
 use Rattle.silt_log_store.proofs.index.KeyIndex.slot_of.Goals as goal
 
@@ -11,8 +11,4 @@ returns c =
     let key = c.args.key.now.0 in
     let slot = slot_is c.args.self.now key _ _ _ _ c.first_slot.result c.requires.table c.requires.index c.requires.first
     c.requires.second (c.as_slice-2.ensures ∙ c.candidates-candidates.ensures.in_order) c.as_slice.ensures.value c.first_slot.ensures in
-    record {
-      slot = slot;
-      standing = slot_stands c.args.self.now.keys.items c.args.self.now.table key c.first_slot.result slot;
-      below = index_below c.args.self.now c.requires.table c.requires.index;
-    }
+    search (rules, arith, slot_stands, index_below)

@@ -1,4 +1,5 @@
-use Rattle.std.proofs.Common.{ap, ◌∙◌}
+use Rattle.std.proofs.lemmas.Grind.{common_steps}
+use Rattle.std.proofs.Common.{ap, ◌∙◌, arith, rules}
 use Rattle.std.proofs.lemmas.Result.{err_from_is_err_and}
 use Rattle.silt_log.specs.State.{LogState}
 use Rattle.silt_log_store.proofs.Growth.{rebuilt_is, rebuilt_frozen, rebuild_refused}
@@ -9,12 +10,10 @@ returns-in_err-table-clause-err g c =
     let refused = err_from_is_err_and c.from_residual.result c.from_residual.ensures.1 in
     let shape = c.scan_commits.ensures.region.0 ∙ ap (λ (l : LogState). l.shape) c.in-Ok.ensures in
     let region = c.scan_commits.ensures.region.1 ∙ ap (λ (l : LogState). l.region) c.in-Ok.ensures in
-    rw (refused.1, refused.2) (rebuild_refused (g.D.Disk.content c.args.disk.now) c.scan_commits.new.self _ _ _ c.in_err-table.field-0.0 shape region c.in_default.ensures.ok c.in_err-table.ensures.err)
+    rw (refused.1, refused.2) (rebuild_refused _ _ _ _ _ c.in_err-table.field-0.0 shape region c.in_default.ensures.ok c.in_err-table.ensures.err)
 
 pub returns-clause-rebuilt : goal.returns-clause-rebuilt
-returns-clause-rebuilt g c = rebuilt_is (g.D.Disk.content c.args.disk.now) c.scan_commits.new.self c.in_ok-table.field-0
-    c.in_default.ensures.ok c.in_ok-table.ensures.index c.in_ok-table.ensures.buckets c.in_ok-table.ensures.rows
+returns-clause-rebuilt g c = grind (arith, common_steps, rebuilt_is, g.D.Disk.content)
 
 pub returns-clause-frozen : goal.returns-clause-frozen
-returns-clause-frozen g c = rebuilt_frozen (g.D.Disk.content c.args.disk.now) c.scan_commits.new.self c.in_ok-table.field-0
-    c.in_default.ensures.ok c.in_ok-table.ensures.index c.in_ok-table.ensures.buckets c.in_ok-table.ensures.rows
+returns-clause-frozen g c = search (rules, arith, rebuilt_frozen, g.D.Disk.content)

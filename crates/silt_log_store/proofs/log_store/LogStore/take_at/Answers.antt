@@ -1,14 +1,7 @@
-use Rattle.std.proofs.Common.{◌+◌, ap, arith}
+use Rattle.std.proofs.Common.{◌+◌, ap}
 use Rattle.silt_log_store.specs.State.{LogStoreState, IsLogStore}
-use Rattle.silt_log_store.proofs.Exits.{held_after, takes_row}
+use Rattle.silt_log_store.proofs.Exits.{takes_row}
 use Rattle.silt_log_store.proofs.log_store.LogStore.take_at.Goals as goal
-
-pub invariant_of-self-2 : goal.invariant_of-self-2
-invariant_of-self-2 g c =
-    let store : LogStoreState = record { log = c.self.inside.log; table = c.self.inside.table; puts = c.self.inside.puts } in
-    held_after store _ _ _ c.len-place.result c.self.invariant c.in_ok-append.ensures.log.stands.bounds c.in_ok-append.ensures.log.log
-    c.enter.ensures.table c.enter.ensures.buckets c.len-place.ensures.value c.enter.ensures.below
-    (omega (arith, c.puts.ensures.most))
 
 pub returns-clause-store : goal.returns-clause-store
 returns-clause-store g c =
