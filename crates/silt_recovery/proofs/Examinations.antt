@@ -1,40 +1,30 @@
 -- What an examination holds, or why it is refused.
-use Rattle.std.proofs.Common.{◌≡◌, ◌≤◌, ◌<◌, ◌+◌, ℕ, nat_lt, true, IsTrue, List, [], ◌∷◌, ◌++◌, All, length, flat_map, sum_by, Option, None, Ok, refl, ap, sym, ◌∙◌, subst, arith}
-use Rattle.std.specs.List.{enumerate_from, list_all}
+use Rattle.silt_recovery.proofs.Common.{◌≡◌, ◌≤◌, ◌<◌, ◌+◌, ℕ, true, IsTrue, List, [], ◌∷◌, ◌++◌, All, length, sum_by, Option, Ok, refl, ap, sym, ◌∙◌, subst, arith, sum_by-cons, Content}
+use Rattle.silt_recovery.proofs.Common.{Rests, size, Shape, InLimits, device_size, HashState, IsHashStore, put_count, Stores, image_digests, image_stores, Finding, log_rows, LogStoreState}
+use Rattle.silt_recovery.proofs.Common.{Body, Digests, SortedState, HasFirstEntry, AreReadHashes, AreSoundHashes, HasFirstSlot, AreReadLogs, AreSoundLogs, HasFirstFinding, IsReadLog}
+use Rattle.silt_recovery.proofs.Common.{put_rows, Holds, IsFound}
+use Rattle.std.proofs.Common.{flat_map, None}
+use Rattle.std.specs.List.{enumerate_from}
 use Rattle.std.proofs.lemmas.Bool.{and_parts, ltb-true}
 use Rattle.std.proofs.lemmas.List.{append-nil}
 use Rattle.std.proofs.lemmas.List.Elements.{All-cons, All-nil, All-weaker}
-use Rattle.std.proofs.lemmas.List.Sums.{sum_by-cons}
-use Rattle.silt_disk.specs.Disk.{Content, Rests, size}
-use Rattle.silt_disk.specs.Layout.{Shape, InLimits, device_size}
-use Rattle.silt_hash_store.specs.State.{HashState, IsHashStore}
 use Rattle.silt_image.specs.Meaning.{AreDigestsOf, IsSound, charge_of, said_entry_findings, said_hash_findings}
-use Rattle.silt_frame.specs.Rows.{put_count}
-use Rattle.silt_image.specs.Stores.{Stores, image_digests, image_stores, stores_named}
-use Rattle.silt_event.specs.declared.damage.Finding.{Finding}
+use Rattle.silt_image.specs.Stores.{stores_named}
 use Rattle.silt_event.specs.declared.damage.Finding.TheVariants.{Damaged}
 use Rattle.silt_event.specs.declared.place.Place.TheVariants.{Charge}
 use Rattle.silt_image.proofs.Search.{charge_found_law}
 use Rattle.silt_image.proofs.Sound.{none_found, said_law}
-use Rattle.silt_log.specs.Rows.{log_rows}
 use Rattle.silt_log_store.specs.Findings.{log_findings}
-use Rattle.silt_log_store.specs.State.{LogStoreState}
 use Rattle.silt_manifest.specs.Body.{all_below, is_well_formed}
 use Rattle.silt_manifest.specs.Standing.{ManifestState, IsCurrent}
-use Rattle.silt_manifest.specs.declared.body.Body.{Body}
-use Rattle.silt_manifest.specs.declared.digests.Digests.{Digests}
 use Rattle.silt_manifest.proofs.SoundBodies.{sound_parts}
 use Rattle.silt_sorted_store.specs.Index.{HasIndex}
-use Rattle.silt_sorted_store.specs.State.{HasDigest, IsHeldSorted, SortedState}
+use Rattle.silt_sorted_store.specs.State.{HasDigest, IsHeldSorted}
 use Rattle.silt_trie.specs.Marks.{MarkedCode}
 use Rattle.silt_standing.specs.State.{IsHashOf, IsSettled, sorted_named}
-use Rattle.silt_recovery.specs.Entries.{AreSoundEntries, HasFirstEntry}
-use Rattle.silt_recovery.specs.Hashes.{AreReadHashes, AreSoundHashes, HasFirstSlot, IsReadHash, region_puts, region_rows}
-use Rattle.silt_recovery.specs.Logs.{AreReadLogs, AreSoundLogs, HasFirstFinding, IsReadLog, put_rows}
-use Rattle.silt_recovery.specs.Opening.{Holds}
-use Rattle.silt_recovery.specs.Refusals.{IsFound}
+use Rattle.silt_recovery.specs.Entries.{AreSoundEntries}
+use Rattle.silt_recovery.specs.Hashes.{IsReadHash}
 use Rattle.silt_recovery.proofs.EntrySearches.{entry_verdict}
-use Rattle.silt_recovery.proofs.Firsts.{charge_nothing}
 use Rattle.silt_recovery.proofs.HashSearches.{charge_of_named, known_count, rows_of_hashes, slot_verdict}
 use Rattle.silt_recovery.proofs.Searches.{found_within, log_verdict, sound_both}
 
@@ -42,20 +32,13 @@ use Rattle.silt_recovery.proofs.Searches.{found_within, log_verdict, sound_both}
 pub named_so : (content : Content) (manifest : ManifestState) (shape : Shape) (body : Body) → shape ≡ manifest.shape → body ≡ manifest.current
     → (IsTrue content.honest → image_stores content.shown ≡ Ok (stores_named manifest.shape manifest.current content.shown))
     → IsTrue content.honest → image_stores content.shown ≡ Ok (stores_named shape body content.shown)
-named_so content manifest shape body same_shape same_body named h =
-    named h ∙ ap (λ (s : Shape). Ok (stores_named s manifest.current content.shown)) (sym same_shape) ∙ ap (λ (b : Body). Ok (stores_named shape b content.shown)) (sym same_body)
+named_so content manifest shape body same_shape same_body named h = search arith
 
 -- nothing is found in the stores, and the manifest's digests are theirs
 all_found : (said : Option Digests) (s : Stores) → flat_map (log_findings s.shape) s.logs ≡ []
     → flat_map (said_hash_findings s.shape said) (enumerate_from 0 s.hashes) ≡ [] → said_entry_findings said s.entries ≡ []
     → charge_of s ≤ s.shape.sorted_capacity → IsSound s × AreDigestsOf said s
-all_found said s logs hashes entries charge =
-    (said_law said s).0 (none_found said s (record {
-      logs = logs;
-      hashes = hashes;
-      entries = entries;
-      charge = charge_nothing (charge_of s) s.shape.sorted_capacity (Damaged Charge) charge;
-    }))
+all_found said s logs hashes entries charge = (said_law said s).0 (search (arith, none_found))
 
 -- the digests in the words of the manifest
 pub says_so : (content : Content) (manifest : ManifestState) (said : Option Digests) → said ≡ manifest.digests
@@ -77,24 +60,19 @@ module _ (content : Content) (shape : Shape) (body : Body) (named : IsTrue conte
     pub frozen_refused : (regions : List ℕ) → regions ≡ body.frozen → (finding : Finding)
         → (IsTrue content.honest → HasFirstFinding shape content.shown regions finding) → IsTrue content.honest → IsFound content.shown finding
     frozen_refused regions are finding found h =
-        let all : (body.active ∷ []) ++ regions ++ [] ≡ body.active ∷ body.frozen = append-nil (body.active ∷ regions) ∙ ap (λ (ids : List ℕ). body.active ∷ ids) are in
-        log_verdict shape body content.shown finding (named h)
-        (subst (λ (ids : List ℕ). HasFirstFinding shape content.shown ids finding) all (found_within shape content.shown (body.active ∷ []) regions [] finding (sound h) (found h)))
+        let all : (body.active ∷ []) ++ regions ++ [] ≡ body.active ∷ body.frozen = cc (append-nil (body.active ∷ regions)) in
+        log_verdict shape body _ _ (named h) (rw all at (found_within shape content.shown (body.active ∷ []) regions [] finding (sound h) (found h)))
 
     module _ (regions : List ℕ) (frozen_are : regions ≡ body.frozen) (frozen : List LogStoreState) (older : ℕ) (read : AreReadLogs content shape regions frozen older) (said : Option Digests)
         (says : IsTrue content.honest → image_digests content.shown ≡ said) where
       -- nothing is found in any log
       all_sound : IsTrue content.honest → AreSoundLogs shape content.shown (body.active ∷ body.frozen)
-      all_sound h =
-          subst (λ (ids : List ℕ). AreSoundLogs shape content.shown (body.active ∷ ids)) frozen_are (sound_both shape content.shown (body.active ∷ []) regions (sound h) (read.sound h))
+      all_sound h = search (arith, sound_both)
 
       -- or in a hash store
       pub hashed_refused : (ids : List ℕ) → ids ≡ body.hashed → (finding : Finding) → (IsTrue content.honest → HasFirstSlot shape said content.shown ids finding)
           → IsTrue content.honest → IsFound content.shown finding
-      hashed_refused ids named_ids finding found h =
-          slot_verdict shape body content.shown finding (named h) (all_sound h)
-          (subst (λ (d : Option Digests). HasFirstSlot shape d content.shown body.hashed finding) (sym (says h))
-          (subst (λ (hashed : List ℕ). HasFirstSlot shape said content.shown hashed finding) named_ids (found h)))
+      hashed_refused ids named_ids finding found h = search (arith, slot_verdict, all_sound)
 
       module _ (ids : List ℕ) (named_ids : ids ≡ body.hashed) (hashes : List HashState) (hash_puts hash_rows : ℕ) (hashed : AreReadHashes content shape said ids hashes hash_puts hash_rows) where
         -- nothing is found in any hash store
@@ -108,17 +86,14 @@ module _ (content : Content) (shape : Shape) (body : Body) (named : IsTrue conte
         -- or in an entry
         pub entry_refused : (finding : Finding) → (IsTrue content.honest → HasFirstEntry shape said content.shown body.sorted body.sorted_count finding)
             → IsTrue content.honest → IsFound content.shown finding
-        entry_refused finding found h =
-            entry_verdict shape body content.shown finding (named h) (all_sound h) (image_sound h)
-            (subst (λ (d : Option Digests). HasFirstEntry shape d content.shown body.sorted body.sorted_count finding) (sym (says h)) (found h))
+        entry_refused finding found h = search (arith, entry_verdict, all_sound, image_sound)
 
         -- the rows that were counted are all
         pub rows_counted : (manifest : ManifestState) → shape ≡ manifest.shape → body ≡ manifest.current → IsTrue content.honest
             → hash_rows ≡ sum_by known_count (stores_named manifest.shape manifest.current content.shown).hashes
         unfolding stores_named
         rows_counted manifest same_shape same_body h =
-            hashed.counted h ∙ ap (sum_by (region_rows shape content.shown)) named_ids ∙ rows_of_hashes shape content.shown body.hashed
-            ∙ ap (λ (s : Stores). sum_by known_count s.hashes) (same_stores manifest same_shape same_body)
+            cc (hashed.counted h, rows_of_hashes shape content.shown body.hashed, same_stores manifest same_shape same_body)
 
         module _ (sorted : SortedState) (are : sorted ≡ sorted_named shape body) (held_sorted : IsHeldSorted sorted)
             (entries_sound : IsTrue content.honest → AreSoundEntries shape said content.shown body.sorted body.sorted_count)
@@ -130,17 +105,14 @@ module _ (content : Content) (shape : Shape) (body : Body) (named : IsTrue conte
               let in_logs : newest + older ≡ put_rows shape content.shown (body.active ∷ body.frozen) =
               ap (λ (n : ℕ). n + older) (counted h) ∙ ap (λ (n : ℕ). puts body.active + n) (read.counted h ∙ ap (put_rows shape content.shown) frozen_are)
               ∙ sym (sum_by-cons puts body.active body.frozen) in
-              let in_hashes : hash_puts ≡ sum_by (region_puts shape content.shown) body.hashed = hashed.charged h ∙ ap (sum_by (region_puts shape content.shown)) named_ids in
-              let entries : sorted.count ≡ body.sorted_count = ap (λ (s : SortedState). s.count) are in
-              omega (arith, in_logs, in_hashes, entries, charge_of_named shape body content.shown)
+              search (arith, charge_of_named)
 
           -- too many puts
           pub charge_refused : shape.sorted_capacity < newest + older + hash_puts + sorted.count → IsTrue content.honest → IsFound content.shown (Damaged Charge)
           unfolding stores_named
           charge_refused many h =
-              charge_found_law content.shown (stores_named shape body content.shown) (named h) (all_sound h) (image_sound h)
-              (subst (λ (d : Option Digests). AreSoundEntries shape d content.shown body.sorted body.sorted_count) (sym (says h)) (entries_sound h))
-              (subst (λ (n : ℕ). shape.sorted_capacity < n) (charge_is h) many)
+              charge_found_law content.shown (stores_named shape body content.shown) (named h) (all_sound h) (image_sound h) (rw (← (says h)) at (entries_sound
+              h)) (rw (charge_is h) at many)
 
           -- nothing is found, and the manifest's digests are those of the stores
           nothing_found : newest + older + hash_puts + sorted.count ≤ shape.sorted_capacity → IsTrue content.honest
@@ -185,18 +157,15 @@ module _ (content : Content) (shape : Shape) (body : Body) (named : IsTrue conte
               named = λ h. named h ∙ ap Ok (same_stores manifest same_shape same_body);
               says = λ h. says h ∙ same_said;
               sound = λ h. subst IsSound (same_stores manifest same_shape same_body) (nothing_found (subst (λ (n : ℕ). n ≤ shape.sorted_capacity) total most) h).0;
-              said = λ h.
-                  subst (λ (d : Option Digests). AreDigestsOf d (stores_named manifest.shape manifest.current content.shown)) same_said
-                  (subst (AreDigestsOf said) (same_stores manifest same_shape same_body) (nothing_found (subst (λ (n : ℕ). n ≤ shape.sorted_capacity) total most) h).1);
+              said = λ h. subst (λ (d : Option Digests). AreDigestsOf d (stores_named manifest.shape manifest.current content.shown)) same_said (subst
+                  (AreDigestsOf said) (same_stores manifest same_shape same_body) (nothing_found (subst (λ (n : ℕ). n ≤ shape.sorted_capacity) total most) h).1);
               counted = λ h. total ∙ charge_is h ∙ ap charge_of (same_stores manifest same_shape same_body);
             }
 
 -- regions that exist, by a test
 all_exist : (n : ℕ) (ids : List ℕ) → all_below n ids ≡ true → All (λ (id : ℕ). id < n) ids
 all_exist n [] is = All-nil (λ (id : ℕ). id < n)
-all_exist n (id ∷ ids) is =
-    let parts = and_parts (nat_lt id n) (list_all (λ (other : ℕ). nat_lt other n) ids) is in
-    All-cons (λ (other : ℕ). other < n) id ids (ltb-true id n parts.0) (all_exist n ids parts.1)
+all_exist n (id ∷ ids) is = search (arith, all_exist n ids, and_parts, All-cons, ltb-true)
 
 -- the logs, the hash stores and the entries of a body that is well formed exist, and are no more than a device can have
 pub record HasRegions (shape : Shape) (body : Body) : Type 0 where
@@ -224,6 +193,4 @@ named_regions shape slot body limits sound =
 -- the same of a body and of numbers that are named in another way
 pub regions_so : (manifest : ManifestState) (slot : ℕ) (shape : Shape) (body : Body) → shape ≡ manifest.shape → body ≡ manifest.current
     → InLimits shape → is_well_formed manifest.shape slot manifest.current ≡ true → HasRegions shape body
-regions_so manifest slot shape body same_shape same_body limits sound =
-    named_regions shape slot body limits
-    (ap (λ (s : Shape). is_well_formed s slot body) same_shape ∙ ap (λ (b : Body). is_well_formed manifest.shape slot b) same_body ∙ sound)
+regions_so manifest slot shape body same_shape same_body limits sound = search (arith, named_regions)

@@ -1,20 +1,16 @@
 -- What formatting writes is what an opening reads.
-use Rattle.std.proofs.Common.{◌≡◌, ◌≤◌, ◌<◌, ℕ, ◌+◌, ◌-◌, IsTrue, List, [], ◌∷◌, ◌++◌, length, take, drop, slice_range, false, Ok, inl, inr, ap, sym, ◌∙◌, subst, arith, take-add}
+use Rattle.silt_recovery.proofs.Common.{◌≡◌, ◌≤◌, ◌<◌, ℕ, ◌+◌, IsTrue, List, [], ◌∷◌, ◌++◌, length, drop, false, Ok, inl, inr, ap, sym, ◌∙◌, subst, arith, Content, Torn, ChangesWithin}
+use Rattle.silt_recovery.proofs.Common.{Writes, LeavesOnly, Rests, size, Shape, InLimits, device_size, commits_at, slot_at, left_at_rest, header_bytes, header_of, entries_digest}
+use Rattle.silt_recovery.proofs.Common.{shape_found, log_rows, Digests}
+use Rattle.std.proofs.Common.{◌-◌, slice_range, take-add}
 use Rattle.std.specs.FinMap.{empty}
 use Rattle.std.proofs.lemmas.List.{drop-drop}
-use Rattle.silt_disk.specs.Disk.{Content, Torn, ChangesWithin, Writes, LeavesOnly, Rests, size, splice}
-use Rattle.silt_disk.specs.Layout.{Shape, InLimits, device_size, commits_at, slot_at}
-use Rattle.silt_disk.proofs.Images.{splice_slice, torn_splice, length-splice, torn_slice_after, left_at_rest, shown_left, rests_leaves}
-use Rattle.silt_disk.specs.Header.{header_bytes, header_of}
-use Rattle.silt_image.specs.Meaning.{StandsFor, entries_digest}
-use Rattle.silt_image.specs.Stores.{shape_found}
-use Rattle.silt_log.specs.Rows.{log_rows}
+use Rattle.silt_disk.specs.Disk.{splice}
+use Rattle.silt_disk.proofs.Images.{splice_slice, torn_splice, length-splice, torn_slice_after, shown_left, rests_leaves}
+use Rattle.silt_image.specs.Meaning.{StandsFor}
 use Rattle.silt_log.proofs.Elsewhere.{log_rows_elsewhere}
-use Rattle.silt_manifest.specs.Body.{first_body}
-use Rattle.silt_manifest.specs.Digests.{long_record}
-use Rattle.silt_manifest.specs.Current.{is_slot_open, manifest_found}
+use Rattle.silt_manifest.specs.Current.{is_slot_open}
 use Rattle.silt_manifest.specs.Standing.{IsFirst}
-use Rattle.silt_manifest.specs.declared.digests.Digests.{Digests}
 use Rattle.silt_manifest.proofs.Laws.{closed_shown, closed_elsewhere, first_elsewhere}
 use Rattle.silt_manifest.proofs.FirstExits.{first_is_current}
 use Rattle.silt_image.proofs.Headers.{formatted_law}
@@ -25,32 +21,27 @@ pub slice_join : (xs : List ℕ) (a b c : ℕ) → a ≤ b → b ≤ c → slice
 slice_join xs a b c low high =
     let sizes : c - a ≡ (b - a) + (c - b) = omega arith in
     let place : a + (b - a) ≡ b = omega arith in
-    ap (λ (n : ℕ). take n (drop a xs)) sizes ∙ take-add (b - a) (c - b) (drop a xs)
-    ∙ ap (λ (ys : List ℕ). take (b - a) (drop a xs) ++ take (c - b) ys) (drop-drop (b - a) a xs ∙ ap (λ (n : ℕ). drop n xs) place)
+    cc (take-add (b - a) (c - b) (drop a xs), drop-drop (b - a) a xs)
 
 -- bytes behind a commit byte that was opened after them
 pub committed : (at : ℕ) (bytes old mid new : List ℕ) → at + 1 + length bytes ≤ length old → mid ≡ splice (at + 1) bytes old
     → new ≡ splice at (167 ∷ []) mid → slice_range new at (at + 1 + length bytes) ≡ 167 ∷ bytes
 committed at bytes old mid new fits first second =
-    let long : length mid ≡ length old = ap length first ∙ length-splice (at + 1) bytes old fits in
+    let long : length mid ≡ length old = ap length first ∙ length-splice _ bytes old fits in
     let commit_fits : at + 1 ≤ length mid = omega (arith, long) in
     let torn : Torn at 1 mid new = subst (Torn at 1 mid) (sym second) (torn_splice at (167 ∷ []) mid commit_fits) in
-    let commit : slice_range new at (at + 1) ≡ 167 ∷ [] = ap (λ (image : List ℕ). slice_range image at (at + 1)) second ∙ splice_slice at (167 ∷ []) mid commit_fits in
+    let commit : slice_range new at (at + 1) ≡ 167 ∷ [] = cc (splice_slice at (167 ∷ []) mid commit_fits) in
     let body : slice_range new (at + 1) (at + 1 + length bytes) ≡ bytes =
-    torn_slice_after at 1 mid new torn (at + 1) (at + 1 + length bytes) (omega arith) (omega (arith, long))
-    ∙ ap (λ (image : List ℕ). slice_range image (at + 1) (at + 1 + length bytes)) first ∙ splice_slice (at + 1) bytes old fits in
-    slice_join new at (at + 1) (at + 1 + length bytes) (omega arith) (omega arith)
-    ∙ ap (λ (xs : List ℕ). xs ++ slice_range new (at + 1) (at + 1 + length bytes)) commit ∙ ap (λ (xs : List ℕ). 167 ∷ xs) body
+    cc (torn_slice_after at 1 mid new torn (at + 1) (at + 1 + length bytes) (omega arith) (omega (arith, long)), splice_slice (at + 1) bytes old fits) in
+    cc (slice_join new at (at + 1) (at + 1 + length bytes) (omega arith) (omega arith))
 
 -- an image with the header, the first manifest body with the digest of no entries, and an empty log 0
 pub fresh_store : (shape : Shape) (digests : Digests) (image : List ℕ) → InLimits shape → digests.sorted.0 ≡ entries_digest []
     → length image ≡ device_size shape → header_of image ≡ 167 ∷ header_bytes shape → IsFirst digests image
     → log_rows shape 0 image ≡ [] → StandsFor shape empty image
 fresh_store shape digests image limits of_none long header first rows =
-    let is : shape_found (length image) (header_of image) ≡ Ok shape =
-    ap (λ (n : ℕ). shape_found n (header_of image)) long ∙ ap (shape_found (device_size shape)) header ∙ formatted_law shape limits in
-    let is_current : manifest_found shape image ≡ Ok (long_record first_body digests) = first_is_current shape digests image limits first.first first.second in
-    empty_law image shape digests is is_current of_none rows
+    let is : shape_found (length image) (header_of image) ≡ Ok shape = cc (formatted_law shape limits) in
+    search (arith, first_is_current, empty_law)
 
 module _ (shape : Shape) (limits : InLimits shape) (c1 c2 c3 : Content) (sized : size c1 ≡ device_size shape) (long2 : size c2 ≡ size c1) (slot : Writes (slot_at 1) (0 ∷ []) c1 c2)
     (prepared : ChangesWithin (commits_at shape 0) shape.log_capacity c2 c3) where
@@ -69,16 +60,15 @@ pub formatted : (shape : Shape) (digests : Digests) (c3 c4 c5 : Content) → InL
     → ChangesWithin 0 37 c4 c5 → (IsTrue c5.honest → header_of c5.shown ≡ 167 ∷ header_bytes shape) → Rests c5
     → LeavesOnly c5 (StandsFor shape empty)
 formatted shape digests c3 c4 c5 limits of_none size3 size4 size5 empties manifest first header has_header rests =
-    let first5 : LeavesOnly c5 (IsFirst digests) = first_elsewhere 0 37 c4 c5 (omega (arith, size4)) (inl (omega arith)) header first in
+    let first5 = first_elsewhere 0 37 c4 c5 (omega (arith, size4)) (inl (omega arith)) header first in
     record {
       each = λ h5 image left.
           let h4 : IsTrue c4.honest = sym header.honest ∙ h5 in
           let h3 : IsTrue c3.honest = sym manifest.honest ∙ h4 in
           let least : 0 < shape.logs = omega (arith, limits.logs_least) in
-          let rows4 : log_rows shape 0 c4.shown ≡ log_rows shape 0 c3.shown =
-          log_rows_elsewhere shape 0 (slot_at 0) 4096 c3.shown c4.shown least (omega (arith, size3)) (inl (omega arith)) (manifest.shown h3) in
-          let rows5 : log_rows shape 0 c5.shown ≡ log_rows shape 0 c4.shown = log_rows_elsewhere shape 0 0 37 c4.shown c5.shown least (omega (arith, size4)) (inl (omega arith)) (header.shown h4) in
-          let shown : StandsFor shape empty c5.shown =
-          fresh_store shape digests c5.shown limits of_none size5 (has_header h5) (first5.each h5 c5.shown (shown_left c5)) (rows5 ∙ rows4 ∙ empties.each h3 c3.shown (shown_left c3)) in
-          subst (StandsFor shape empty) (sym (left_at_rest rests h5 image left)) shown;
+          let rows4 = log_rows_elsewhere shape 0 _ 4096 _ _ least (omega (arith, size3)) (inl (omega arith)) (manifest.shown h3) in
+          let rows5 = log_rows_elsewhere shape 0 0 37 _ _ least (omega (arith, size4)) (inl (omega arith)) (header.shown h4) in
+          let shown =
+          fresh_store shape _ _ limits of_none size5 (has_header h5) (first5.each h5 c5.shown (shown_left c5)) (rows5 ∙ rows4 ∙ empties.each h3 c3.shown (shown_left c3)) in
+          rw (← (left_at_rest rests h5 image left)) at shown;
     }

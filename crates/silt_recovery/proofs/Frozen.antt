@@ -1,16 +1,10 @@
 -- The logs so far, and one more.
-use Rattle.std.proofs.Common.{◌≡◌, ◌<◌, ℕ, ◌+◌, IsTrue, List, [], ◌∷◌, ◌++◌, length, take, drop, get_or, ap, sym, ◌∙◌, subst, append_assoc}
-use Rattle.std.proofs.lemmas.List.{drop_more, map-append, take-append-drop, take_more}
+use Rattle.silt_recovery.proofs.Common.{◌≡◌, ◌<◌, ℕ, ◌+◌, IsTrue, List, [], ◌∷◌, ◌++◌, length, take, drop, get_or, ap, sym, ◌∙◌, arith, map-append, Content, Shape, put_count, Finding}
+use Rattle.silt_recovery.proofs.Common.{log_rows, LogStoreState, region_of, AreReadLogs, AreSoundLogs, HasFirstFinding, IsReadLog, put_rows}
+use Rattle.std.proofs.Common.{append_assoc}
+use Rattle.std.proofs.lemmas.List.{drop_more, take-append-drop, take_more}
 use Rattle.std.proofs.lemmas.List.Elements.{All-push}
 use Rattle.std.proofs.lemmas.List.Sums.{sum_by_push}
-use Rattle.silt_disk.specs.Disk.{Content}
-use Rattle.silt_disk.specs.Layout.{Shape}
-use Rattle.silt_frame.specs.Rows.{put_count}
-use Rattle.silt_event.specs.declared.damage.Finding.{Finding}
-use Rattle.silt_log.specs.Rows.{log_rows}
-use Rattle.silt_log_store.specs.State.{LogStoreState}
-use Rattle.silt_standing.specs.State.{region_of}
-use Rattle.silt_recovery.specs.Logs.{AreReadLogs, AreSoundLogs, HasFirstFinding, IsReadLog, put_rows}
 use Rattle.silt_recovery.proofs.Searches.{found_within, sound_both}
 
 -- one log more
@@ -20,14 +14,13 @@ pub one_more_read : (content : Content) (shape : Shape) (regions : List ℕ) (i 
     → (IsTrue content.honest → added ≡ put_count (log_rows shape (get_or regions i 0) content.shown)) → AreReadLogs content shape (take (i + 1) regions) (stores ++ store ∷ []) (puts + added)
 one_more_read content shape regions i stores puts store added before read has_region own sound counted =
     let region : ℕ = get_or regions i 0 in
-    let next : take (i + 1) regions ≡ take i regions ++ region ∷ [] = take_more regions i 0 before in
-    subst (λ (ids : List ℕ). AreReadLogs content shape ids (stores ++ store ∷ []) (puts + added)) (sym next) (record {
+    let next = take_more regions i 0 before in
+    rw next (record {
       has_regions = map-append region_of stores (store ∷ []) ∙ ap (λ (ids : List ℕ). ids ++ store.log.region ∷ []) read.has_regions ∙ ap (λ (id : ℕ). take i regions ++ id ∷ []) has_region;
       each = All-push (IsReadLog content shape) stores store read.each own;
       sound = λ h. sound_both shape content.shown (take i regions) (region ∷ []) (read.sound h) (sound h);
-      counted = λ h.
-          ap (λ (n : ℕ). n + added) (read.counted h) ∙ ap (λ (n : ℕ). put_rows shape content.shown (take i regions) + n) (counted h)
-          ∙ sym (sum_by_push (λ (id : ℕ). put_count (log_rows shape id content.shown)) (take i regions) region);
+      counted = λ h. ap (λ (n : ℕ). n + added) (read.counted h) ∙ ap (λ (n : ℕ). put_rows shape content.shown (take i regions) + n) (counted h) ∙ sym (sum_by_push
+          (λ (id : ℕ). put_count (log_rows shape id content.shown)) (take i regions) region);
     })
 
 -- a finding in the next log
@@ -36,7 +29,5 @@ pub next_finding : (content : Content) (shape : Shape) (regions : List ℕ) (i :
     → IsTrue content.honest → HasFirstFinding shape content.shown regions finding
 next_finding content shape regions i stores puts before read finding found h =
     let region : ℕ = get_or regions i 0 in
-    let all : take i regions ++ (region ∷ []) ++ drop (i + 1) regions ≡ regions =
-    append_assoc (take i regions) (region ∷ []) (drop (i + 1) regions) ∙ ap (λ (ids : List ℕ). take i regions ++ ids) (sym (drop_more regions i 0 before)) ∙ take-append-drop i regions in
-    subst (λ (ids : List ℕ). HasFirstFinding shape content.shown ids finding) all
-    (found_within shape content.shown (take i regions) (region ∷ []) (drop (i + 1) regions) finding (read.sound h) (found h))
+    let all : take i regions ++ (region ∷ []) ++ drop (i + 1) regions ≡ regions = search (arith, append_assoc, drop_more, take-append-drop) in
+    search (arith, found_within)

@@ -1,33 +1,23 @@
 -- What a crash leaves of a formatting.
-use Rattle.std.proofs.Common.{◌≡◌, ◌≢◌, ◌≤◌, ◌<◌, ℕ, ◌+◌, ◌==◌, Bool, false, ◌&&◌, ◌||◌, IsTrue, List, [], ◌∷◌, ◌++◌, length, get_or, slice_range, slice_index}
-use Rattle.std.proofs.Common.{Result, Ok, Err, Some, inl, inr, refl, ap, sym, ◌∙◌, subst, arith}
+use Rattle.silt_recovery.proofs.Common.{◌≡◌, ◌≤◌, ◌<◌, ℕ, ◌+◌, false, IsTrue, List, [], ◌∷◌, length, get_or, Ok, Err, Some, inl, inr, ap, sym, ◌∙◌, subst, arith, Content, Torn, Writes}
+use Rattle.silt_recovery.proofs.Common.{ChangesWithin, LeavesOnly, Rests, size, Shape, InLimits, device_size, slot_at, left_at_rest, header_bytes, header_of, entries_digest, image_verdict}
+use Rattle.silt_recovery.proofs.Common.{log_rows, Digests}
+use Rattle.std.proofs.Common.{slice_range, slice_index, Result}
 use Rattle.std.specs.Result.{OnErr}
-use Rattle.std.proofs.lemmas.Bool.{cases_Bool, cases_eq}
-use Rattle.std.proofs.lemmas.Bool.Decides.{nat_tests}
 use Rattle.std.proofs.lemmas.List.{get_or-take}
-use Rattle.silt_disk.specs.Disk.{Content, Torn, Tears, Writes, ChangesWithin, LeavesOnly, Rests, size}
-use Rattle.silt_disk.specs.Layout.{Shape, InLimits, device_size, slot_at}
-use Rattle.silt_disk.proofs.Images.{left_at_rest, rests_leaves, sized_leaves, splice_byte, splice_slice, torn_refl, torn_slice_after, within_leaves, write_within}
-use Rattle.std.specs.Str.{bytes_eq}
+use Rattle.silt_disk.specs.Disk.{Tears}
+use Rattle.silt_disk.proofs.Images.{sized_leaves, splice_slice, torn_refl, torn_slice_after, within_leaves, write_within}
 use Rattle.silt_frame.specs.Commit.{is_open}
-use Rattle.silt_disk.specs.Header.{header_bytes, header_of, is_formatted, magic, version_number}
-use Rattle.silt_image.specs.Meaning.{entries_digest, image_verdict}
-use Rattle.silt_image.specs.Stores.{image_stores, stores_shaped}
+use Rattle.silt_disk.specs.Header.{is_formatted}
+use Rattle.silt_image.specs.Stores.{image_stores}
 use Rattle.silt_event.specs.declared.damage.Finding.TheVariants.{NotFormatted}
 use Rattle.silt_image.proofs.Verdict.{no_stores_law}
-use Rattle.silt_log.specs.Rows.{log_rows}
 use Rattle.silt_log.proofs.Elsewhere.{log_rows_elsewhere}
 use Rattle.silt_manifest.specs.Standing.{IsFirst}
-use Rattle.silt_manifest.specs.declared.digests.Digests.{Digests}
 use Rattle.silt_manifest.proofs.Laws.{first_elsewhere}
 use Rattle.silt_recovery.specs.Format.{HasHeaderOrNone, IsCommitClosed, IsHalfFormatted}
-use Rattle.silt_recovery.proofs.Formats.{fresh_store, slice_join}
+use Rattle.silt_recovery.proofs.Formats.{fresh_store}
 use Rattle.silt_image.proofs.HeaderExits.{not_formatted}
-
--- the first byte
-take_first : (image : List ℕ) → 1 ≤ length image → slice_range image 0 1 ≡ get_or image 0 0 ∷ []
-take_first [] least = absurd (omega arith)
-take_first (byte ∷ image) least = refl
 
 -- ---- the header's commit byte
 
@@ -43,26 +33,16 @@ commit_kept_by_write at count old new behind tears closed = commit_kept at count
 
 -- it is closed once that is settled
 pub commit_closed : (old new : Content) → 1 ≤ size old → Writes 0 (0 ∷ []) old new → Rests new → LeavesOnly new IsCommitClosed
-commit_closed old new least writes rests = rests_leaves rests (record {
-  holds = λ honest opened.
-      let h : IsTrue old.honest = sym writes.honest ∙ honest in
-      let byte : get_or new.shown 0 0 ≡ 0 = ap (λ (image : List ℕ). get_or image 0 0) (writes.shown h) ∙ splice_byte 0 (0 ∷ []) old.shown 0 (omega (arith, least)) (omega arith) in
-      let no : 0 ≡ 167 = sym byte ∙ opened in
-      omega arith;
-})
+commit_closed old new least writes rests = search arith
 
 -- no store is behind a closed commit byte
 pub closed_verdict : (image : List ℕ) → IsCommitClosed image → image_verdict image ≡ Some NotFormatted
 unfolding image_stores
 closed_verdict image closed =
     let commit : slice_index (header_of image) 0 ≡ get_or image 0 0 = get_or-take 37 image 0 0 (omega arith) in
-    let shut : is_open (slice_index (header_of image) 0) ≡ false = (let other : get_or image 0 0 ≢ 167 = closed in elim (cases_Bool (is_open (slice_index (header_of image) 0))) [
-      | inl opened ↦ absurd (other (sym commit ∙ (let same : slice_index (header_of image) 0 ≡ 167 = grind (arith, nat_tests) in same)))
-      | inr none ↦ none
-    ]) in
-    let none : is_formatted (header_of image) ≡ false =
-    ap (λ (b : Bool). b && (bytes_eq (slice_range (header_of image) 1 9) magic) && ((version_number (header_of image) == 1) || (version_number (header_of image) == 2))) shut in
-    no_stores_law image NotFormatted (ap (stores_shaped image) (not_formatted (length image) (header_of image) none))
+    let shut : is_open (slice_index (header_of image) 0) ≡ false = search arith in
+    let none : is_formatted (header_of image) ≡ false = search arith in
+    search (arith, no_stores_law, not_formatted)
 
 -- ---- the exits of writing the header
 
@@ -84,13 +64,7 @@ header_committed shape old between new least writes rests same changes = record 
       let body : slice_range image 1 37 ≡ header_bytes shape =
       torn_slice_after 0 1 between.shown image torn 1 37 (omega arith) (omega (arith, long, least)) ∙ ap (λ (x : List ℕ). slice_range x 1 37) (writes.shown h0)
       ∙ splice_slice 1 (header_bytes shape) old.shown (omega (arith, least)) in
-      elim (cases_eq (get_or image 0 0) 167) [
-        | inl opened ↦
-            let room : length image ≡ length between.shown = torn.size in
-            let first : slice_range image 0 1 ≡ 167 ∷ [] = take_first image (omega (arith, room, long, least)) ∙ ap (λ (n : ℕ). n ∷ []) opened in
-            inr (slice_join image 0 1 37 (omega arith) (omega arith) ∙ ap (λ (xs : List ℕ). xs ++ slice_range image 1 37) first ∙ ap (λ (xs : List ℕ). 167 ∷ xs) body)
-        | inr other ↦ inl other
-      ];
+      search arith;
 }
 
 -- ---- the exits of formatting

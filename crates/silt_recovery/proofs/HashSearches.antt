@@ -1,38 +1,25 @@
 -- Findings in hash stores that are read one after the other.
-use Rattle.std.proofs.Common.{◌≡◌, ◌<◌, ℕ, ◌+◌, Bool, true, false, IsTrue, List, [], ◌∷◌, ◌++◌, length, map, take, drop, flat_map, get_or, sum_by, slice_get}
-use Rattle.std.proofs.Common.{Option, Some, Ok, refl, ap, sym, ◌∙◌, subst, arith}
-use Rattle.std.specs.List.{enumerate_from}
+use Rattle.silt_recovery.proofs.Common.{◌≡◌, ◌<◌, ℕ, ◌+◌, Bool, true, false, IsTrue, List, [], ◌∷◌, ◌++◌, length, map, take, drop, get_or, sum_by, Option, Some, Ok, refl, ap, sym, ◌∙◌}
+use Rattle.silt_recovery.proofs.Common.{subst, arith, map-append, sum_by-cons, Content, Shape, HashState, IsHashStore, digest_findings, image_verdict, put_count, image_digests, image_stores}
+use Rattle.silt_recovery.proofs.Common.{Finding, Place, finding_if, Body, Digests, AreReadHashes, AreSoundHashes, HasFirstSlot, AreSoundLogs, put_rows}
 use Rattle.std.proofs.Common.{length-take-le}
-use Rattle.std.proofs.lemmas.List.{append-nil, drop_more, length-map, map-append, take-append-drop, take_more}
+use Rattle.std.proofs.lemmas.List.{drop_more, length-map, take-append-drop, take_more}
 use Rattle.std.proofs.lemmas.List.Elements.{All-push}
-use Rattle.std.proofs.lemmas.List.Sums.{sum_by-cons, sum_by_push}
+use Rattle.std.proofs.lemmas.List.Sums.{sum_by_push}
 use Rattle.std.proofs.lemmas.Grind.{flat_map-append}
-use Rattle.silt_disk.specs.Disk.{Content}
-use Rattle.silt_disk.specs.Layout.{Shape}
 use Rattle.silt_hash_store.specs.Rebuild.{IsFirstUnsound}
-use Rattle.silt_hash_store.specs.State.{HashState, IsHashStore}
-use Rattle.silt_image.specs.Meaning.{charge_of, digest_findings, image_verdict, part_digest, rows_of, said_hash, said_hash_findings}
-use Rattle.silt_hash_store.specs.Findings.{hash_findings}
-use Rattle.silt_log.specs.Parts.{known_rows, oldest_first, part_rows, Part, log_part}
-use Rattle.silt_frame.specs.Rows.{put_count, StoredRow}
+use Rattle.silt_image.specs.Meaning.{charge_of, part_digest, rows_of, said_hash}
+use Rattle.silt_log.specs.Parts.{known_rows, oldest_first, Part}
 use Rattle.silt_hash_store.specs.Slots.{hash_part}
-use Rattle.silt_image.specs.Stores.{image_digests, image_stores, stores_named}
-use Rattle.silt_sorted_store.specs.State.{sorted_rows}
-use Rattle.silt_event.specs.declared.damage.Finding.{Finding}
+use Rattle.silt_image.specs.Stores.{stores_named}
 use Rattle.silt_event.specs.declared.damage.Finding.TheVariants.{Damaged}
-use Rattle.silt_event.specs.declared.place.Place.{Place}
 use Rattle.silt_event.specs.declared.place.Place.TheVariants.{Hash, HashDigest}
-use Rattle.silt_event.specs.Findings.{finding_if}
-use Rattle.silt_event.proofs.Findings.{nothing_both}
 use Rattle.silt_event.proofs.Rows.{count_law}
 use Rattle.silt_image.proofs.Search.{first_slot_law, places_append}
-use Rattle.silt_manifest.specs.declared.body.Body.{Body}
-use Rattle.silt_manifest.specs.declared.digests.Digests.{Digests}
 use Rattle.silt_standing.specs.State.{hash_region_of}
-use Rattle.silt_recovery.specs.Hashes.{AreReadHashes, AreSoundHashes, HasFirstInRegion, HasFirstSlot, IsReadHash, region_findings, region_puts, region_rows}
-use Rattle.silt_recovery.specs.Logs.{AreSoundLogs, put_rows}
+use Rattle.silt_recovery.specs.Hashes.{HasFirstInRegion, IsReadHash, region_findings, region_puts, region_rows}
 use Rattle.silt_recovery.proofs.EntrySearches.{charge_of_entries}
-use Rattle.silt_recovery.proofs.Firsts.{first_behind, first_of_front, none_other, other_found}
+use Rattle.silt_recovery.proofs.Firsts.{first_of_front}
 use Rattle.silt_recovery.proofs.Searches.{charge_of_logs}
 
 -- ---- in one hash store
@@ -40,39 +27,21 @@ use Rattle.silt_recovery.proofs.Searches.{charge_of_logs}
 module _ (content : Content) (shape : Shape) (region : ℕ) (said : Option (List ℕ)) where
   -- the first slot in which something is found
   pub damaged_slot : (slot : ℕ) → IsFirstUnsound content shape region slot → HasFirstInRegion shape said content.shown region (Damaged (Hash region slot))
-  damaged_slot slot found = record {
-    first =
-        first_of_front (hash_findings shape (hash_part shape content.shown region))
-        (digest_findings (HashDigest region) said (part_digest (hash_part shape content.shown region))) (Damaged (Hash region slot)) found.first;
-  }
+  damaged_slot slot found = search (arith, first_of_front)
 
   module _ (store : HashState) (has_shape : store.shape ≡ shape) (has_region : store.region ≡ region) (stands : IsHashStore content store) where
-    -- nothing is found in the slots of a store that was read
-    slots_sound : IsTrue content.honest → hash_findings shape (hash_part shape content.shown region) ≡ []
-    slots_sound h =
-        subst (λ (s : Shape). hash_findings s (hash_part s content.shown region) ≡ []) has_shape
-        (subst (λ (r : ℕ). hash_findings store.shape (hash_part store.shape content.shown r) ≡ []) has_region (stands.sound h))
-
     -- its digest is that of what is shown
     digest_shown : IsTrue content.honest → store.digest ≡ part_digest (hash_part shape content.shown region)
-    digest_shown h =
-        stands.digested h ∙ ap (λ (s : Shape). part_digest (hash_part s content.shown store.region)) has_shape ∙ ap (λ (r : ℕ). part_digest (hash_part shape content.shown r)) has_region
+    digest_shown h = search arith
 
     module _ (test : Bool) (tests : (place : Place) → digest_findings place said store.digest ≡ finding_if test (Damaged place)) where
       -- the manifest has another digest
       pub other_digest : test ≡ true → IsTrue content.honest → HasFirstInRegion shape said content.shown region (Damaged (HashDigest region))
-      other_digest is h = record {
-        first =
-            first_behind (hash_findings shape (hash_part shape content.shown region))
-            (digest_findings (HashDigest region) said (part_digest (hash_part shape content.shown region))) (Damaged (HashDigest region))
-            (slots_sound h) (other_found said (part_digest (hash_part shape content.shown region)) store.digest test tests (digest_shown h) (HashDigest region) is);
-      }
+      other_digest is h = search arith
 
       -- the manifest has this digest, or none
       pub sound_hash : test ≡ false → IsTrue content.honest → region_findings shape said content.shown region ≡ []
-      sound_hash is h =
-          nothing_both (hash_findings shape (hash_part shape content.shown region)) (digest_findings (HashDigest region) said (part_digest (hash_part shape content.shown region)))
-          (slots_sound h) (none_other said (part_digest (hash_part shape content.shown region)) store.digest test tests (digest_shown h) (HashDigest region) is)
+      sound_hash is h = search arith
 
 -- ---- in several
 
@@ -80,38 +49,22 @@ module _ (content : Content) (shape : Shape) (region : ℕ) (said : Option (List
 one_more_sound : (shape : Shape) (said : Option Digests) (image some : List ℕ) (region place : ℕ) → length some ≡ place
     → AreSoundHashes shape said image some → region_findings shape (said_hash said place) image region ≡ []
     → AreSoundHashes shape said image (some ++ region ∷ [])
-one_more_sound shape said image some region place counted first second =
-    let parts : List Part = map (hash_part shape image) some in
-    let last : List Part = hash_part shape image region ∷ [] in
-    let number : 0 + length parts ≡ place = omega (arith, length-map some (hash_part shape image), counted) in
-    let own : flat_map (said_hash_findings shape said) (enumerate_from (0 + length parts) last) ≡ [] =
-    ap (λ (n : ℕ). flat_map (said_hash_findings shape said) (enumerate_from n last)) number ∙ append-nil (said_hash_findings shape said (place, hash_part shape image region)) ∙ second in
-    ap (λ (l : List Part). flat_map (said_hash_findings shape said) (enumerate_from 0 l)) (map-append (hash_part shape image) some (region ∷ []))
-    ∙ ap (flat_map (said_hash_findings shape said)) (places_append 0 parts last)
-    ∙ flat_map-append (said_hash_findings shape said) (enumerate_from 0 parts) (enumerate_from (0 + length parts) last)
-    ∙ nothing_both (flat_map (said_hash_findings shape said) (enumerate_from 0 parts)) (flat_map (said_hash_findings shape said) (enumerate_from (0 + length parts) last)) first own
+one_more_sound shape said image some region place counted first second = search (arith, length-map, map-append, places_append, flat_map-append)
 
 -- the first finding in the hash stores that the current record names is the verdict, if nothing is found in the logs
 pub slot_verdict : (shape : Shape) (body : Body) (image : List ℕ) (finding : Finding) → image_stores image ≡ Ok (stores_named shape body image) → AreSoundLogs shape image (body.active ∷ body.frozen)
     → HasFirstSlot shape (image_digests image) image body.hashed finding → image_verdict image ≡ Some finding
 unfolding stores_named
 slot_verdict shape body image finding stores logs found =
-    first_slot_law image (stores_named shape body image) (map (hash_part shape image) found.before) (map (hash_part shape image) found.after) (hash_part shape image found.region) finding stores logs
-    (ap (map (hash_part shape image)) found.all ∙ map-append (hash_part shape image) found.before (found.region ∷ found.after)) found.sound
-    (ap (λ (n : ℕ). slice_get (said_hash_findings shape (image_digests image) (n, hash_part shape image found.region)) 0) (length-map found.before (hash_part shape image)) ∙ found.first)
+    first_slot_law image (stores_named shape body image) (map (hash_part shape image) found.before) (map (hash_part shape image) found.after) (hash_part shape
+    image found.region) finding stores logs (search (arith, map-append)) found.sound (search (arith, length-map))
 
 -- ---- the puts
 
 -- the puts in the rows of some hash stores
 charge_of_hashes : (shape : Shape) (image regions : List ℕ) → put_count (oldest_first (map known_rows (map (hash_part shape image) regions))) ≡ sum_by (region_puts shape image) regions
 charge_of_hashes shape image [] = refl
-charge_of_hashes shape image (region ∷ regions) =
-    let own : ℕ = region_puts shape image region in
-    let rest : ℕ = sum_by (region_puts shape image) regions in
-    count_law (oldest_first (map known_rows (map (hash_part shape image) regions))) (known_rows (hash_part shape image region))
-    ∙ ap (λ (n : ℕ). n + own) (charge_of_hashes shape image regions)
-    ∙ (let swapped : rest + own ≡ own + rest = omega arith in swapped)
-    ∙ sym (sum_by-cons (region_puts shape image) region regions)
+charge_of_hashes shape image (region ∷ regions) = search (arith, charge_of_hashes shape image regions, count_law, sum_by-cons)
 
 -- how many rows of known kinds a hash store has
 abbrev pub known_count : Part → ℕ
@@ -120,35 +73,20 @@ known_count part = length (known_rows part)
 -- the rows of known kinds of some hash stores
 pub rows_of_hashes : (shape : Shape) (image regions : List ℕ) → sum_by (region_rows shape image) regions ≡ sum_by known_count (map (hash_part shape image) regions)
 rows_of_hashes shape image [] = refl
-rows_of_hashes shape image (region ∷ regions) =
-    sum_by-cons (region_rows shape image) region regions
-    ∙ ap (λ (n : ℕ). region_rows shape image region + n) (rows_of_hashes shape image regions)
-    ∙ sym (sum_by-cons known_count (hash_part shape image region) (map (hash_part shape image) regions))
+rows_of_hashes shape image (region ∷ regions) = search (arith, rows_of_hashes shape image regions, sum_by-cons)
 
 -- the charge is the sorted entries and the puts in the hash stores and the logs
 pub charge_of_named : (shape : Shape) (body : Body) (image : List ℕ)
     → charge_of (stores_named shape body image) ≡ body.sorted_count + (sum_by (region_puts shape image) body.hashed + put_rows shape image (body.active ∷ body.frozen))
 unfolding rows_of stores_named
-charge_of_named shape body image =
-    let entries : List StoredRow = sorted_rows shape body.sorted body.sorted_count image in
-    let hashes : List StoredRow = oldest_first (map known_rows (map (hash_part shape image) body.hashed)) in
-    let logs : List StoredRow = oldest_first (map part_rows (map (log_part shape image) (body.active ∷ body.frozen))) in
-    omega (
-      arith,
-      count_law (entries ++ hashes) logs,
-      count_law entries hashes,
-      charge_of_entries shape body.sorted body.sorted_count image,
-      charge_of_hashes shape image body.hashed,
-      charge_of_logs shape image (body.active ∷ body.frozen),
-    )
+charge_of_named shape body image = search (arith, count_law, charge_of_entries, charge_of_hashes, charge_of_logs)
 
 -- ---- the hash stores so far, and one more
 
 -- a hash store that was read has the puts that are shown
 puts_read : (content : Content) (shape : Shape) (store : HashState) (region : ℕ) → store.region ≡ region → IsReadHash content shape store
     → IsTrue content.honest → store.puts ≡ region_puts shape content.shown region
-puts_read content shape store region has_region own h =
-    own.stands.counted h ∙ ap (λ (s : Shape). region_puts s content.shown store.region) own.hash.has_shape ∙ ap (region_puts shape content.shown) has_region
+puts_read content shape store region has_region own h = search arith
 
 module _ (content : Content) (shape : Shape) (said : Option Digests) (regions : List ℕ) (i : ℕ) (stores : List HashState) (puts rows : ℕ)
     (before : i < length regions) (read : AreReadHashes content shape said (take i regions) stores puts rows) where
@@ -164,20 +102,17 @@ module _ (content : Content) (shape : Shape) (said : Option Digests) (regions : 
         → AreReadHashes content shape said (take (i + 1) regions) (stores ++ store ∷ []) (puts + more_puts) (rows + more_rows)
     one_more_hash store more_puts more_rows has_region own sound are_puts counted =
         let region : ℕ = get_or regions i 0 in
-        let charged : IsTrue content.honest → more_puts ≡ region_puts shape content.shown region = λ h. are_puts ∙ puts_read content shape store region has_region own h in
-        let next : take (i + 1) regions ≡ take i regions ++ region ∷ [] = take_more regions i 0 before in
-        subst (λ (ids : List ℕ). AreReadHashes content shape said ids (stores ++ store ∷ []) (puts + more_puts) (rows + more_rows)) (sym next) (record {
+        let charged : IsTrue content.honest → more_puts ≡ region_puts shape content.shown region = λ h. are_puts ∙ puts_read _ shape store region has_region own h in
+        let next = take_more regions i 0 before in
+        rw next (record {
           has_regions = map-append hash_region_of stores (store ∷ []) ∙ ap (λ (ids : List ℕ). ids ++ store.region ∷ []) read.has_regions ∙ ap (λ (id : ℕ). take i regions ++ id ∷ []) has_region;
           each = All-push (IsReadHash content shape) stores store read.each own;
-          sound = λ h.
-              one_more_sound shape said content.shown (take i regions) region i so_many (read.sound h)
-              (subst (λ (d : Option (List ℕ)). region_findings shape d content.shown region ≡ []) is_said (sound h));
-          charged = λ h.
-              ap (λ (n : ℕ). n + more_puts) (read.charged h) ∙ ap (λ (n : ℕ). sum_by (region_puts shape content.shown) (take i regions) + n) (charged h)
-              ∙ sym (sum_by_push (region_puts shape content.shown) (take i regions) region);
-          counted = λ h.
-              ap (λ (n : ℕ). n + more_rows) (read.counted h) ∙ ap (λ (n : ℕ). sum_by (region_rows shape content.shown) (take i regions) + n) (counted h)
-              ∙ sym (sum_by_push (region_rows shape content.shown) (take i regions) region);
+          sound = λ h. one_more_sound shape said content.shown (take i regions) region i so_many (read.sound h) (subst (λ (d : Option (List ℕ)). region_findings shape
+              d content.shown region ≡ []) is_said (sound h));
+          charged = λ h. ap (λ (n : ℕ). n + more_puts) (read.charged h) ∙ ap (λ (n : ℕ). sum_by (region_puts shape content.shown) (take i regions) + n) (charged h) ∙
+              sym (sum_by_push (region_puts shape content.shown) (take i regions) region);
+          counted = λ h. ap (λ (n : ℕ). n + more_rows) (read.counted h) ∙ ap (λ (n : ℕ). sum_by (region_rows shape content.shown) (take i regions) + n) (counted h) ∙
+              sym (sum_by_push (region_rows shape content.shown) (take i regions) region);
         })
 
     -- a finding in the next hash store
@@ -187,9 +122,7 @@ module _ (content : Content) (shape : Shape) (said : Option Digests) (regions : 
       before = take i regions;
       region = get_or regions i 0;
       after = drop (i + 1) regions;
-      all = sym (ap (λ (ids : List ℕ). take i regions ++ ids) (sym (drop_more regions i 0 before)) ∙ take-append-drop i regions);
+      all = search (arith, drop_more, take-append-drop);
       sound = read.sound h;
-      first =
-          ap (λ (n : ℕ). slice_get (said_hash_findings shape said (n, hash_part shape content.shown (get_or regions i 0))) 0) so_many
-          ∙ ap (λ (d : Option (List ℕ)). slice_get (region_findings shape d content.shown (get_or regions i 0)) 0) (sym is_said) ∙ (found h).first;
+      first = search (arith, so_many);
     }

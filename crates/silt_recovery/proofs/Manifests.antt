@@ -1,17 +1,14 @@
 -- What a read of the manifest shows of the stores.
-use Rattle.std.proofs.Common.{◌≡◌, ℕ, List, length, Some, Ok, Err, Result, refl, ap, sym, ◌∙◌}
-use Rattle.silt_disk.specs.Layout.{Shape}
-use Rattle.silt_disk.specs.Header.{header_of}
-use Rattle.silt_image.specs.Stores.{damage_finding, image_digests, image_stores, shape_found, stores_named, stores_of_current, stores_shaped}
+use Rattle.silt_recovery.proofs.Common.{◌≡◌, ℕ, List, length, Some, Ok, Err, refl, ap, sym, ◌∙◌, Shape, header_of, image_digests, shape_found, Finding, IsFound}
+use Rattle.std.proofs.Common.{Result}
+use Rattle.silt_image.specs.Stores.{damage_finding, image_stores, stores_named, stores_of_current, stores_shaped}
 use Rattle.silt_image.proofs.Named.{digests_law, stores_law}
 use Rattle.silt_image.proofs.Verdict.{no_stores_law}
-use Rattle.silt_event.specs.declared.damage.Finding.{Finding}
 use Rattle.silt_manifest.specs.Faults.{IsDamaged}
 use Rattle.silt_manifest.specs.Current.{manifest_found, where_found}
 use Rattle.silt_manifest.specs.Standing.{IsCurrentIn, ManifestState, current_record}
 use Rattle.silt_manifest.specs.declared.slot.SlotRecord.{SlotRecord}
 use Rattle.silt_manifest.specs.declared.slot.Damage.{Damage}
-use Rattle.silt_recovery.specs.Refusals.{IsFound}
 
 -- a record that was found
 pub found_record : (found : Result SlotRecord Damage) (held : SlotRecord) → where_found found ≡ Some held → found ≡ Ok held

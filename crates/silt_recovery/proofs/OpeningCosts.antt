@@ -1,25 +1,16 @@
 -- How many writes and syncs an opening makes.
-use Rattle.std.proofs.Common.{◌≡◌, ◌≤◌, ℕ, ◌+◌, Bool, true, false, cond, IsTrue, refl, ap, sym, ◌∙◌, arith}
-use Rattle.silt_disk.specs.Disk.{Content, Makes, MakesAtMost, Settles}
-use Rattle.silt_disk.specs.Layout.{Shape}
+use Rattle.silt_recovery.proofs.Common.{◌≡◌, ◌≤◌, ℕ, ◌+◌, Bool, true, false, IsTrue, refl, arith, Content, EngineState, Holds, OpenError}
+use Rattle.std.proofs.Common.{cond}
+use Rattle.silt_disk.specs.Disk.{Makes, MakesAtMost, Settles}
 use Rattle.silt_disk.proofs.Costs.{made_both, most_both, most_made}
 use Rattle.silt_image.specs.Stores.{stores_named}
-use Rattle.silt_log.specs.Rows.{has_stale_commit}
-use Rattle.silt_standing.specs.State.{EngineState}
-use Rattle.silt_recovery.specs.Opening.{CostsOpening, CostsRefusal, Holds, are_stale, has_stale_log}
-use Rattle.silt_recovery.specs.declared.fault.OpenError.{OpenError}
+use Rattle.silt_recovery.specs.Opening.{CostsOpening, CostsRefusal, has_stale_log}
 use Rattle.silt_recovery.specs.declared.fault.OpenError.TheVariants.{NotFormatted, Damaged, Crowded, Device, NoMemory}
 
 -- the active log was found as it was shown
 stale_as_shown : (old between : Content) (s : EngineState) → Settles old between → Holds between s → IsTrue old.honest → s.active.log.stale ≡ has_stale_log old.shown
 unfolding has_stale_log stores_named
-stale_as_shown old between s settles holds o =
-    let h : IsTrue between.honest = settles.honest ∙ o in
-    (holds.active.scanned h).stale
-    ∙ ap (λ (x : Shape). has_stale_commit x s.active.log.region between.shown) holds.active.has_shape
-    ∙ ap (λ (n : ℕ). has_stale_commit s.manifest.shape n between.shown) holds.whole.active_region
-    ∙ ap (are_stale between.shown) (sym (holds.named h))
-    ∙ ap has_stale_log (settles.shown o)
+stale_as_shown old between s settles holds o = search arith
 
 -- the sync before the seal counts
 with_sync : (stale : Bool) → 1 + cond stale 1 0 ≡ cond stale 2 1

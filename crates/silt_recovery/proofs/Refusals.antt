@@ -1,17 +1,12 @@
 -- Refusals in other words.
-use Rattle.silt_event.specs.declared.damage.Finding.{Finding}
+use Rattle.silt_recovery.proofs.Common.{arith, Finding, IsRefusedLook, OpenError}
 use Rattle.silt_event.specs.declared.damage.Finding.TheVariants as finding
-use Rattle.silt_recovery.specs.Refusals.{IsRefusedLook, refusal_of}
-use Rattle.silt_recovery.specs.declared.fault.OpenError.{OpenError}
-use Rattle.silt_recovery.specs.declared.fault.OpenError.TheVariants.{NotFormatted, Damaged, Crowded, Device, NoMemory}
+use Rattle.silt_recovery.specs.Refusals.{refusal_of}
+use Rattle.silt_recovery.specs.declared.fault.OpenError.TheVariants.{NotFormatted, Damaged, Crowded}
 
 -- a look is refused for a finding in other words, and by the same faults
 pub refused_weaker : {F : Type 0} (P Q : Finding → Type 0) (W : F → Type 0) (error : OpenError F) → ((found : Finding) → P found → Q found) → IsRefusedLook P W error → IsRefusedLook Q W error
-refused_weaker P Q W NotFormatted step refused = step finding.NotFormatted refused
-refused_weaker P Q W (Damaged place) step refused = step (finding.Damaged place) refused
-refused_weaker P Q W Crowded step refused = step finding.Crowded refused
-refused_weaker P Q W (Device fault) step refused = refused
-refused_weaker P Q W NoMemory step refused = refused
+refused_weaker P Q W error step refused = search arith
 
 -- an examination is refused for the finding that it reports
 pub look_refused : {F : Type 0} (P : Finding → Type 0) (W : F → Type 0) (found : Finding) → P found → IsRefusedLook P W (refusal_of found)

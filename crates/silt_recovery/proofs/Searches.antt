@@ -1,33 +1,25 @@
 -- Findings in logs that are read one after the other.
-use Rattle.std.proofs.Common.{◌≡◌, ◌<◌, ℕ, ◌+◌, Bool, true, false, not, List, [], ◌∷◌, ◌++◌, length, map, take, flat_map, get_or, slice_get, Some, Ok, refl, ap, sym, ◌∙◌, subst, arith, append_assoc}
+use Rattle.silt_recovery.proofs.Common.{◌≡◌, ◌<◌, ℕ, ◌+◌, true, false, List, [], ◌∷◌, ◌++◌, length, map, take, get_or, Some, Ok, refl, ap, sym, ◌∙◌, arith, map-append, sum_by-cons, Content}
+use Rattle.silt_recovery.proofs.Common.{Shape, image_verdict, log_part, put_count, StoredRow, image_stores, Finding, log_rows, LogStoreState, Body, AreSoundLogs, HasFirstFinding, put_rows}
+use Rattle.std.proofs.Common.{append_assoc}
 use Rattle.std.specs.Option.{is_some}
 use Rattle.std.specs.List.{list_all}
-use Rattle.std.proofs.lemmas.List.{append-nil, get_or-map, map-append}
-use Rattle.std.proofs.lemmas.List.Sums.{sum_by-cons}
+use Rattle.std.proofs.lemmas.List.{get_or-map}
 use Rattle.std.proofs.lemmas.Grind.{flat_map-append}
 use Rattle.std.proofs.lemmas.Option.{slice_get-get_or}
-use Rattle.silt_disk.specs.Disk.{Content}
-use Rattle.silt_disk.specs.Layout.{Shape}
 use Rattle.silt_cuckoo.specs.Index.{index_of_keys}
 use Rattle.silt_image.specs.Laws.{FirstFinding}
-use Rattle.silt_event.specs.Findings.{finding_if}
-use Rattle.silt_log_store.specs.Findings.{fits_table, log_findings}
-use Rattle.silt_image.specs.Meaning.{image_verdict}
-use Rattle.silt_log.specs.Parts.{oldest_first, part_rows, log_part}
-use Rattle.silt_frame.specs.Rows.{put_count, keys_of, has_known_kind, StoredRow}
-use Rattle.silt_image.specs.Stores.{image_stores, stores_named}
-use Rattle.silt_event.specs.declared.damage.Finding.{Finding}
+use Rattle.silt_log_store.specs.Findings.{fits_table}
+use Rattle.silt_log.specs.Parts.{oldest_first, part_rows}
+use Rattle.silt_frame.specs.Rows.{keys_of, has_known_kind}
+use Rattle.silt_image.specs.Stores.{stores_named}
 use Rattle.silt_event.specs.declared.damage.Finding.TheVariants.{Damaged, Crowded}
 use Rattle.silt_event.specs.declared.place.Place.TheVariants.{Log}
 use Rattle.silt_event.proofs.Rows.{count_law}
 use Rattle.silt_image.proofs.Search.{first_finding_law}
 use Rattle.silt_log_store.proofs.Findings.{log_sound_law}
-use Rattle.silt_log.specs.Rows.{log_rows}
 use Rattle.silt_log_store.specs.Rebuild.{IsFirstCrowded, IsFirstDamaged, IsRebuilt, has_known_kind_at}
-use Rattle.silt_log_store.specs.State.{LogStoreState}
 use Rattle.silt_cuckoo.specs.Slots.{Slots}
-use Rattle.silt_manifest.specs.declared.body.Body.{Body}
-use Rattle.silt_recovery.specs.Logs.{AreSoundLogs, HasFirstFinding, put_rows}
 
 -- no row, of an unknown kind
 blank : StoredRow
@@ -52,13 +44,7 @@ module _ (shape : Shape) (image : List ℕ) (region : ℕ) where
   damaged_row place first =
       let row : StoredRow = get_or (log_rows shape region image) place blank in
       let unknown : has_known_kind row ≡ false = kind_there (log_rows shape region image) place first.there ∙ first.unknown in
-      alone place row (Damaged (Log region place)) (record {
-        there = slice_get-get_or (log_rows shape region image) place blank first.there;
-        known = first.before.known;
-        fits = first.before.placed;
-        first = ap (λ (b : Bool). slice_get (finding_if (not b) (Damaged (Log region place))
-            ++ finding_if (not (fits_table shape (take (place + 1) (log_rows shape region image)))) Crowded) 0) unknown;
-      })
+      alone place row (Damaged (Log region place)) (search (arith, slice_get-get_or))
 
   -- a key that finds no place
   pub crowded_row : (place : ℕ) → IsFirstCrowded shape.buckets (log_rows shape region image) place → HasFirstFinding shape image (region ∷ []) Crowded
@@ -67,36 +53,24 @@ module _ (shape : Shape) (image : List ℕ) (region : ℕ) where
       let row : StoredRow = get_or (log_rows shape region image) place blank in
       let known : has_known_kind row ≡ true = kind_there (log_rows shape region image) place first.there ∙ first.known in
       let none : fits_table shape (take (place + 1) (log_rows shape region image)) ≡ false = ap is_some first.crowded in
-      alone place row Crowded (record {
-        there = slice_get-get_or (log_rows shape region image) place blank first.there;
-        known = first.before.known;
-        fits = first.before.placed;
-        first = ap (λ (b : Bool). slice_get (finding_if (not b) (Damaged (Log region place)) ++ finding_if (not (fits_table shape (take (place + 1) (log_rows shape region image)))) Crowded) 0) known
-            ∙ ap (λ (b : Bool). slice_get (finding_if (not b) Crowded) 0) none;
-      })
+      alone place row Crowded (search (arith, slice_get-get_or))
 
   -- all kinds known and all keys placed
   pub sound_log : (table : Slots) → list_all has_known_kind (log_rows shape region image) ≡ true
       → index_of_keys shape.buckets (keys_of (log_rows shape region image)) ≡ Some table → AreSoundLogs shape image (region ∷ [])
   unfolding fits_table
-  sound_log table known indexed =
-      append-nil (log_findings shape (log_part shape image region)) ∙ (log_sound_law shape (log_part shape image region)).1 (known, ap is_some indexed)
+  sound_log table known indexed = search (arith, log_sound_law)
 
 -- a log that was rebuilt
 pub rebuilt_sound : (content : Content) (shape : Shape) (region : ℕ) (store : LogStoreState) → store.log.shape ≡ shape
     → store.log.region ≡ region → IsRebuilt content store → AreSoundLogs shape content.shown (region ∷ [])
-rebuilt_sound content shape region store has_shape has_region rebuilt =
-    let own : AreSoundLogs store.log.shape content.shown (store.log.region ∷ []) = sound_log store.log.shape content.shown store.log.region store.table rebuilt.known rebuilt.indexed in
-    subst (λ (s : Shape). AreSoundLogs s content.shown (region ∷ [])) has_shape (subst (λ (r : ℕ). AreSoundLogs store.log.shape content.shown (r ∷ [])) has_region own)
+rebuilt_sound content shape region store has_shape has_region rebuilt = search (arith, sound_log)
 
 -- ---- in several
 
 -- some logs and those behind them
 pub sound_both : (shape : Shape) (image some more : List ℕ) → AreSoundLogs shape image some → AreSoundLogs shape image more → AreSoundLogs shape image (some ++ more)
-sound_both shape image some more first second =
-    ap (flat_map (log_findings shape)) (map-append (log_part shape image) some more)
-    ∙ flat_map-append (log_findings shape) (map (log_part shape image) some) (map (log_part shape image) more)
-    ∙ ap (λ (l : List Finding). l ++ flat_map (log_findings shape) (map (log_part shape image) more)) first ∙ second
+sound_both shape image some more first second = search (arith, map-append, flat_map-append)
 
 -- the first finding among some of the logs, behind others in which nothing is found
 pub found_within : (shape : Shape) (image before regions after : List ℕ) (finding : Finding) → AreSoundLogs shape image before
@@ -105,9 +79,7 @@ found_within shape image before regions after finding sound found = record {
   before = before ++ found.before;
   region = found.region;
   after = found.after ++ after;
-  all = ap (λ (l : List ℕ). before ++ l ++ after) found.all
-      ∙ ap (λ (l : List ℕ). l ++ after) (sym (append_assoc before found.before (found.region ∷ found.after)))
-      ∙ append_assoc (before ++ found.before) (found.region ∷ found.after) after;
+  all = search (arith, append_assoc);
   sound = sound_both shape image before found.before sound found.sound;
   place = found.place;
   row = found.row;
@@ -128,10 +100,4 @@ log_verdict shape body image finding stores found =
 -- the puts in the rows of some logs
 pub charge_of_logs : (shape : Shape) (image regions : List ℕ) → put_count (oldest_first (map part_rows (map (log_part shape image) regions))) ≡ put_rows shape image regions
 charge_of_logs shape image [] = refl
-charge_of_logs shape image (region ∷ regions) =
-    let own : ℕ = put_count (log_rows shape region image) in
-    let rest : ℕ = put_rows shape image regions in
-    count_law (oldest_first (map part_rows (map (log_part shape image) regions))) (log_rows shape region image)
-    ∙ ap (λ (n : ℕ). n + own) (charge_of_logs shape image regions)
-    ∙ (let swapped : rest + own ≡ own + rest = omega arith in swapped)
-    ∙ sym (sum_by-cons (λ (r : ℕ). put_count (log_rows shape r image)) region regions)
+charge_of_logs shape image (region ∷ regions) = search (arith, charge_of_logs shape image regions, count_law, sum_by-cons)

@@ -1,19 +1,12 @@
 -- What a device shows in which nothing is found.
-use Rattle.std.proofs.Common.{◌≡◌, IsTrue, List, map, slice_index_or, Option, ap, sym, ◌∙◌, subst}
-use Rattle.silt_disk.specs.Disk.{Content}
-use Rattle.silt_event.specs.Commands.{map_after}
-use Rattle.silt_event.specs.Rows.{command_of, map_of_rows}
-use Rattle.silt_frame.specs.Rows.{StoredRow}
-use Rattle.silt_image.specs.Meaning.{AreDigestsOf, IsGood, image_map}
+use Rattle.silt_recovery.proofs.Common.{◌≡◌, IsTrue, ap, sym, arith, Content, EngineState, IsReadLog, Holds}
+use Rattle.std.proofs.Common.{slice_index_or}
+use Rattle.silt_image.specs.Meaning.{IsGood, image_map}
 use Rattle.silt_image.proofs.Verdict.{rows_law, sound_law}
 use Rattle.silt_log.specs.Rows.{first_rows, log_rows}
 use Rattle.silt_log.specs.State.{settled_rows}
 use Rattle.silt_log.proofs.Waiting.{none_waiting}
-use Rattle.silt_manifest.specs.declared.digests.Digests.{Digests}
-use Rattle.silt_standing.specs.Standing.{ShowsStores, base_map, current_map, shown_stores}
-use Rattle.silt_standing.specs.State.{EngineState}
-use Rattle.silt_recovery.specs.Logs.{IsReadLog}
-use Rattle.silt_recovery.specs.Opening.{Holds}
+use Rattle.silt_standing.specs.Standing.{ShowsStores, base_map, current_map}
 
 module _ (content : Content) (s : EngineState) (holds : Holds content s) where
   -- the active log has the rows that are shown
@@ -35,12 +28,8 @@ module _ (content : Content) (s : EngineState) (holds : Holds content s) where
   -- their map is that of the image that is shown
   pub held_map : IsTrue content.honest → current_map content s ≡ image_map content.shown
   unfolding base_map image_map
-  held_map h =
-      ap (λ (rows : List StoredRow). map_after (base_map content s) (map command_of rows)) (none_waiting content s.active.log holds.active.settled)
-      ∙ ap map_of_rows (sym (rows_law content.shown (shown_stores content s) (holds.named h)))
+  held_map h = search (arith, none_waiting, rows_law)
 
   -- which is good
   pub held_good : IsTrue content.honest → IsGood content.shown
-  held_good h =
-      (sound_law content.shown (shown_stores content s) (holds.named h)).1
-      (holds.sound h, subst (λ (d : Option Digests). AreDigestsOf d (shown_stores content s)) (sym (holds.says h)) (holds.said h))
+  held_good h = search (arith, sound_law)

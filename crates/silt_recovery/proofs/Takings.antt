@@ -1,26 +1,24 @@
 -- What holds at the exits of an opening.
-use Rattle.std.proofs.Common.{◌≡◌, ◌≤◌, ◌<◌, ℕ, ◌+◌, ◌-◌, ◌*◌, inl, inr, false, IsTrue, List, [], ◌∷◌, ◌++◌, All, length, map, slice_index_or, Option, None, Ok, refl, ap, sym, ◌∙◌, subst, arith}
-use Rattle.std.specs.List.{list_all}
+use Rattle.silt_recovery.proofs.Common.{◌≡◌, ◌≤◌, ◌<◌, ℕ, ◌+◌, ◌*◌, inl, inr, false, IsTrue, List, [], ◌∷◌, ◌++◌, All, length, map, Option, Ok, refl, ap, sym, ◌∙◌, subst, arith, Content}
+use Rattle.silt_recovery.proofs.Common.{LeavesOnly, ChangesWithin, Torn, size, Shape, InLimits, device_size, commits_at, slot_at, left_at_rest, HashState, IsHashStore, StoredRow, put_count}
+use Rattle.silt_recovery.proofs.Common.{log_part, Stores, image_digests, image_stores, LogStoreState, Digests, SortedState, EngineState, region_of, IsReadLog, Holds, IsFound, IsRefusedLook}
+use Rattle.silt_recovery.proofs.Common.{OpenError}
+use Rattle.std.proofs.Common.{◌-◌, slice_index_or, None}
 use Rattle.std.specs.Option.{IfSome}
 use Rattle.std.proofs.lemmas.List.{append-nil}
-use Rattle.std.proofs.lemmas.List.Elements.{All-cons, All-nil}
 use Rattle.std.proofs.lemmas.List.FromFn.{length-map-range_with_len}
 use Rattle.std.proofs.Math.Nat.{one-le-mul}
-use Rattle.silt_disk.specs.Disk.{Content, Left, LeavesOnly, Settles, Stays, ChangesWithin, LiesOutside, Torn, size}
-use Rattle.silt_disk.specs.Layout.{Shape, InLimits, device_size, entries_len, commits_at, hash_at, log_size, row_len, slot_at, sorted_at}
-use Rattle.silt_disk.proofs.Images.{left_at_rest, left_after_failed_sync, shown_left, within_wider}
+use Rattle.silt_disk.specs.Disk.{Settles, Stays}
+use Rattle.silt_disk.specs.Layout.{hash_at, log_size, row_len}
+use Rattle.silt_disk.proofs.Images.{left_after_failed_sync, shown_left, within_wider}
 use Rattle.silt_disk.proofs.Regions.{next_region, up_least}
-use Rattle.silt_cuckoo.specs.Index.{index_of_keys}
 use Rattle.silt_conversion.specs.Conversion.{ConversionState, HasWritten}
-use Rattle.silt_hash_store.specs.State.{HashState, IsHashStore}
 use Rattle.silt_hash_store.proofs.Elsewhere.{hash_elsewhere}
 use Rattle.silt_disk.specs.Header.{shape_of}
 use Rattle.silt_image.specs.Laws.{IsWhole}
-use Rattle.silt_image.specs.Meaning.{AreDigestsOf, IsGood, IsSound, StandsFor, charge_of, image_map, rows_of, with_log_rows}
+use Rattle.silt_image.specs.Meaning.{AreDigestsOf, IsGood, IsSound, StandsFor, image_map, rows_of, with_log_rows}
 use Rattle.silt_event.specs.Rows.{map_of_rows}
-use Rattle.silt_frame.specs.Rows.{has_known_kind, StoredRow, keys_of, put_count}
-use Rattle.silt_log.specs.Parts.{Part, log_part}
-use Rattle.silt_image.specs.Stores.{Stores, image_digests, image_stores, stores_named}
+use Rattle.silt_image.specs.Stores.{stores_named}
 use Rattle.silt_image.proofs.Frame.{log_region_law}
 use Rattle.silt_image.proofs.Named.{digests_law, stores_law, whole_law}
 use Rattle.silt_image.proofs.Rows.{own_rows_law}
@@ -29,23 +27,14 @@ use Rattle.silt_log.specs.Rows.{first_rows, log_rows, open_count, rows_from}
 use Rattle.silt_log.specs.State.{LogState, InBounds, all_rows, waiting_rows}
 use Rattle.silt_log.proofs.Waiting.{none_waiting}
 use Rattle.silt_log_store.specs.Calls.{SealsStore}
-use Rattle.silt_log_store.specs.State.{LogStoreState}
 use Rattle.silt_manifest.proofs.Laws.{current_record_elsewhere}
 use Rattle.silt_manifest.specs.Standing.{IsCurrentIn, IsCurrent, current_record}
-use Rattle.silt_manifest.specs.declared.digests.Digests.{Digests}
 use Rattle.silt_merge.specs.State.{MergeState}
 use Rattle.silt_standing.specs.Standing.{HasGathered, IsDigested, IsFrozen, IsLocated, Stands, base_map, shown_stores}
-use Rattle.silt_sorted_store.specs.State.{SortedState}
 use Rattle.silt_sorted_store.proofs.Elsewhere.{digest_elsewhere, indexed_elsewhere}
-use Rattle.silt_standing.proofs.Places.{entries_behind_log}
-use Rattle.silt_standing.specs.State.{AreWhole, IsHashOf, IsMerging, IsUnderWay, EngineState, oldest_log, region_of}
-use Rattle.silt_recovery.specs.Logs.{IsReadLog}
-use Rattle.silt_recovery.specs.Opening.{Holds, IsUnwritten, IsUnwrittenUnlessFailed, LeavesNoOther, TakesUp}
-use Rattle.silt_recovery.specs.Refusals.{IsFound, IsRefusedLook}
-use Rattle.silt_recovery.specs.declared.fault.OpenError.{OpenError}
-use Rattle.silt_recovery.specs.declared.fault.OpenError.TheVariants.{NotFormatted, Damaged, Crowded, Device, NoMemory}
+use Rattle.silt_standing.specs.State.{AreWhole, IsHashOf, IsMerging, IsUnderWay, oldest_log}
+use Rattle.silt_recovery.specs.Opening.{IsUnwritten, IsUnwrittenUnlessFailed, LeavesNoOther, TakesUp}
 use Rattle.silt_recovery.proofs.Manifests.{record_that_is_current}
-use Rattle.silt_recovery.proofs.Refusals.{refused_weaker}
 use Rattle.silt_recovery.proofs.Shown.{held_good}
 
 -- ---- where nothing was written
@@ -56,23 +45,11 @@ unsettled old new stays = record { each = λ honest image left. inl (left_after_
 
 -- after a sync the disk shows what it showed, and that is its one crash image
 pub settled_only : (old new : Content) → Settles old new → IsUnwritten old new
-settled_only old new settles = record {
-  shown = settles.shown;
-  left = record {
-    each = λ honest image left.
-        let was : IsTrue old.honest = sym settles.honest ∙ honest in
-        let is : image ≡ old.shown = left_at_rest settles.rests honest image left ∙ settles.shown was in
-        subst (Left old) (sym is) (shown_left old);
-  };
-}
+settled_only old new settles = search arith
 
 -- so it is refused, if it is
 pub unwritten : {F : Type 0} (old new : Content) (error : OpenError F) → Settles old new → IsUnwrittenUnlessFailed old new error
-unwritten old new NotFormatted settles = settled_only old new settles
-unwritten old new (Damaged place) settles = settled_only old new settles
-unwritten old new Crowded settles = settled_only old new settles
-unwritten old new (Device fault) settles = tt
-unwritten old new NoMemory settles = settled_only old new settles
+unwritten old new error settles = search arith
 
 -- and each image might have been left before
 pub settled_image : (old new : Content) → Settles old new → LeavesNoOther old new
@@ -81,9 +58,7 @@ settled_image old new settles = record { each = λ honest image left. inl ((sett
 -- why a look was refused is why the opening is
 pub looked_up : {F : Type 0} (W : F → Type 0) (old new : Content) (error : OpenError F) → Settles old new
     → IsRefusedLook (λ finding. IsTrue new.honest → IsFound new.shown finding) W error → IsRefusedLook (λ finding. IsTrue old.honest → IsFound old.shown finding) W error
-looked_up W old new error settles refused =
-    refused_weaker (λ finding. IsTrue new.honest → IsFound new.shown finding) (λ finding. IsTrue old.honest → IsFound old.shown finding) W error
-    (λ finding found h. subst (λ (image : List ℕ). IsFound image finding) (settles.shown h) (found (settles.honest ∙ h))) refused
+looked_up W old new error settles refused = search arith
 
 -- ---- the rows of a log
 
@@ -103,28 +78,16 @@ frozen_stands : (between new : Content) (shape : Shape) (store : LogStoreState) 
 frozen_stands between new shape store honest read stays =
     let was : IsTrue new.honest → IsTrue between.honest = λ h. sym honest ∙ h in
     let rows : IsTrue between.honest → log_rows store.log.shape store.log.region new.shown ≡ log_rows store.log.shape store.log.region between.shown =
-    subst (λ (s : Shape). IsTrue between.honest → log_rows s store.log.region new.shown ≡ log_rows s store.log.region between.shown) (sym read.has_shape) stays in
+    search arith in
     let used : IsTrue between.honest → store.log.used ≡ open_count store.log.shape store.log.region new.shown = λ h.
     (read.scanned h).used ∙ sym (row_count store.log.shape store.log.region between.shown) ∙ sym (ap length (rows h)) ∙ row_count store.log.shape store.log.region new.shown in
-    let all : IsTrue between.honest → all_rows new store.log ≡ all_rows between store.log = λ h.
-    scanned_rows new store.log (used h) ∙ rows h ∙ sym (scanned_rows between store.log (read.scanned h).used) in
-    record {
-      rows = λ h. used (was h);
-      indexed = record {
-        known = λ h. ap (list_all has_known_kind) (all (was h)) ∙ read.indexed.known (was h);
-        indexed = λ h. ap (λ (l : List StoredRow). index_of_keys store.log.shape.buckets (keys_of l)) (all (was h)) ∙ read.indexed.indexed (was h);
-        counted = λ h. read.indexed.counted (was h) ∙ ap put_count (sym (all (was h)));
-      };
-    }
+    search (arith, scanned_rows)
 
 -- stores with equal logs have equal rows in each
 same_rows : (shape : Shape) (a b : List ℕ) (stores : List LogStoreState) → map (log_part shape a) (map region_of stores) ≡ map (log_part shape b) (map region_of stores)
     → All (λ (store : LogStoreState). log_rows shape store.log.region a ≡ log_rows shape store.log.region b) stores
-same_rows shape a b [] same = All-nil (λ (store : LogStoreState). log_rows shape store.log.region a ≡ log_rows shape store.log.region b)
-same_rows shape a b (store ∷ stores) same =
-    let first : log_part shape a store.log.region ≡ log_part shape b store.log.region = cc in
-    let rest : map (log_part shape a) (map region_of stores) ≡ map (log_part shape b) (map region_of stores) = cc in
-    All-cons (λ (s : LogStoreState). log_rows shape s.log.region a ≡ log_rows shape s.log.region b) store stores (ap (λ (part : Part). part.rows) first) (same_rows shape a b stores rest)
+same_rows shape a b [] same = search arith
+same_rows shape a b (store ∷ stores) same = search (arith, same_rows shape a b stores)
 
 -- what a seal changes lies in its log's region
 sealed_within : (log : LogState) (old new : Content) → InLimits log.shape → InBounds log
@@ -152,8 +115,7 @@ index_stands : (between new : Content) (s : EngineState) (log : ℕ) → log < s
 index_stands between new s log exists fits changes whole located =
     let is_shape : s.manifest.shape ≡ s.sorted.shape = ap (λ (t : SortedState). t.shape) (sym whole.sorted) in
     indexed_elsewhere s.sorted s.index between new (commits_at s.manifest.shape log) (log_size s.manifest.shape) whole.held (subst (λ (x : Shape). device_size x ≤ size between) is_shape fits)
-    (subst (λ (x : Shape). LiesOutside (sorted_at x s.sorted.region) (entries_len x) (commits_at s.manifest.shape log) (log_size s.manifest.shape)) is_shape
-    (entries_behind_log s.manifest.shape log s.sorted.region exists)) changes located
+    (search arith) changes located
 
 -- and so is their digest
 digest_stands : (between new : Content) (s : EngineState) (log : ℕ) → log < s.manifest.shape.logs → device_size s.manifest.shape ≤ size between
@@ -162,8 +124,7 @@ digest_stands : (between new : Content) (s : EngineState) (log : ℕ) → log < 
 digest_stands between new s log exists fits changes whole digested =
     let is_shape : s.manifest.shape ≡ s.sorted.shape = ap (λ (t : SortedState). t.shape) (sym whole.sorted) in
     digest_elsewhere s.sorted s.digest between new (commits_at s.manifest.shape log) (log_size s.manifest.shape) whole.held (subst (λ (x : Shape). device_size x ≤ size between) is_shape fits)
-    (subst (λ (x : Shape). LiesOutside (sorted_at x s.sorted.region) (entries_len x) (commits_at s.manifest.shape log) (log_size s.manifest.shape)) is_shape
-    (entries_behind_log s.manifest.shape log s.sorted.region exists)) changes digested
+    (search arith) changes digested
 
 -- if no conversion is in progress, nothing is required of one
 none_converts : (s : EngineState) → s.converting ≡ None → IfSome s.converting (IsUnderWay s)
@@ -195,19 +156,13 @@ module _ (old between new : Content) (s : EngineState) (settles : Settles old be
 
   -- the change and the rows, in the manifest's words
   changed : ChangesWithin (commits_at s.manifest.shape s.manifest.current.active) (log_size s.manifest.shape) between new
-  changed =
-      subst (λ (n : ℕ). ChangesWithin (commits_at s.manifest.shape n) (log_size s.manifest.shape) between new) holds.whole.active_region
-      (subst (λ (x : Shape). ChangesWithin (commits_at x s.active.log.region) (log_size x) between new) holds.whole.has_shape changes)
+  changed = rw (holds.whole.has_shape, holds.whole.active_region) at changes
 
   stays : LeavesOnly new (λ image. log_rows s.manifest.shape s.manifest.current.active image ≡ log_rows s.manifest.shape s.manifest.current.active between.shown)
-  stays =
-      subst (λ (n : ℕ). LeavesOnly new (λ image. log_rows s.manifest.shape n image ≡ log_rows s.manifest.shape n between.shown)) holds.whole.active_region
-      (subst (λ (x : Shape). LeavesOnly new (λ image. log_rows x s.active.log.region image ≡ log_rows x s.active.log.region between.shown)) holds.whole.has_shape images)
+  stays = rw (holds.whole.has_shape, holds.whole.active_region) at images
 
   exists : s.manifest.current.active < s.manifest.shape.logs
-  exists =
-      subst (λ (n : ℕ). n < s.manifest.shape.logs) holds.whole.active_region
-      (subst (λ (x : Shape). s.active.log.region < x.logs) holds.whole.has_shape holds.active.bounds.region)
+  exists = search arith
 
   whole : IsTrue between.honest → IsWhole (shown_stores between s) between.shown
   whole h = whole_law between.shown (shown_stores between s) (holds.named h)
@@ -225,11 +180,8 @@ module _ (old between new : Content) (s : EngineState) (settles : Settles old be
         let h : IsTrue between.honest = was honest in
         let from = changed.left h image left in
         let is : from.0 ≡ between.shown = left_at_rest settles.rests h from.0 from.1 in
-        let torn : Torn (commits_at s.manifest.shape s.manifest.current.active) (log_size s.manifest.shape) between.shown image =
-        subst (λ (before : List ℕ). Torn (commits_at s.manifest.shape s.manifest.current.active) (log_size s.manifest.shape) before image) is from.2 in
-        log_region_law between.shown image (shown_stores between s) s.manifest.current.active (holds.named h) exists torn
-        ∙ ap (λ (rows : List StoredRow). Ok (with_log_rows s.manifest.current.active rows (shown_stores between s))) (stays.each honest image left)
-        ∙ ap Ok (own_rows h);
+        let torn : Torn (commits_at s.manifest.shape s.manifest.current.active) (log_size s.manifest.shape) between.shown image = rw is at from.2 in
+        cc (log_region_law between.shown image (shown_stores between s) s.manifest.current.active (holds.named h) exists torn, stays.each honest image left, own_rows h);
   }
 
   -- and so is what is shown
@@ -241,7 +193,7 @@ module _ (old between new : Content) (s : EngineState) (settles : Settles old be
   stays_current_in : IsCurrent s.manifest new
   stays_current_in =
       let least : slot_at 1 + 4096 ≤ size between = omega (arith, holds.has_size) in
-      current_record_elsewhere s.manifest (commits_at s.manifest.shape s.manifest.current.active) (log_size s.manifest.shape) between new least (inr (omega arith)) changed (holds.current settles.rests)
+      current_record_elsewhere _ _ _ _ new least (inr (omega arith)) changed (holds.current settles.rests)
 
   -- so it has the same digests
   said_in : (image : List ℕ) → image_stores image ≡ Ok (shown_stores between s) → IsCurrentIn s.manifest image → image_digests image ≡ s.manifest.digests
@@ -260,9 +212,7 @@ module _ (old between new : Content) (s : EngineState) (settles : Settles old be
       let stands : StandsFor s.manifest.shape (map_of_rows (rows_of (shown_stores between s))) image =
       stands_law image (shown_stores between s) stores (holds.sound h) (subst (λ (d : Option Digests). AreDigestsOf d (shown_stores between s)) (sym says) (holds.said h)) in
       let has_shape : s.manifest.shape ≡ shape_of old.shown = sym (whole h).has_shape ∙ ap shape_of (settles.shown o) in
-      let has_map : map_of_rows (rows_of (shown_stores between s)) ≡ image_map old.shown =
-      ap map_of_rows (sym (rows_law between.shown (shown_stores between s) (holds.named h))) ∙ ap image_map (settles.shown o) in
-      subst (λ (x : Shape). StandsFor x (image_map old.shown) image) has_shape (subst (λ m. StandsFor s.manifest.shape m image) has_map stands)
+      search (arith, rows_law)
 
   pub sealed_images : LeavesNoOther old new
   sealed_images = record { each = λ honest image left. inr (stands_for (sym settles.honest ∙ was honest) image (same_stores.each honest image left) (same_said.each honest image left)) }
@@ -273,30 +223,21 @@ module _ (old between new : Content) (s : EngineState) (settles : Settles old be
 
     frozen_rows : IsTrue between.honest → All (λ (store : LogStoreState). log_rows s.manifest.shape store.log.region new.shown ≡ log_rows s.manifest.shape store.log.region between.shown) s.frozen
     unfolding stores_named
-    frozen_rows h =
-        let all : map (log_part s.manifest.shape new.shown) (s.manifest.current.active ∷ s.manifest.current.frozen) ≡ map
-        (log_part s.manifest.shape between.shown) (s.manifest.current.active ∷ s.manifest.current.frozen) =
-        ap (λ (x : Stores). x.logs) (shown_same h) in
-        let frozen : map (log_part s.manifest.shape new.shown) s.manifest.current.frozen ≡ map (log_part s.manifest.shape between.shown) s.manifest.current.frozen = cc in
-        same_rows s.manifest.shape new.shown between.shown s.frozen
-        (subst (λ (ids : List ℕ). map (log_part s.manifest.shape new.shown) ids ≡ map (log_part s.manifest.shape between.shown) ids) (sym holds.whole.frozen_regions) frozen)
+    frozen_rows h = search (arith, shown_same, same_rows)
 
     settled : after.log.settled ≡ after.log.used
     settled = ap (λ (l : LogState). l.settled) same_log ∙ holds.active.settled ∙ sym (ap (λ (l : LogState). l.used) same_log)
 
     -- the rows of the active log
     active_rows : IsTrue between.honest → all_rows new after.log ≡ log_rows s.manifest.shape s.manifest.current.active between.shown
-    active_rows h =
-        seals.all h ∙ scanned_rows between s.active.log (holds.active.scanned h).used
-        ∙ ap (λ (x : Shape). log_rows x s.active.log.region between.shown) holds.whole.has_shape ∙ ap (λ (n : ℕ). log_rows s.manifest.shape n between.shown) holds.whole.active_region
+    active_rows h = cc (seals.all h, scanned_rows between s.active.log (holds.active.scanned h).used, holds.whole.has_shape, holds.whole.active_region)
 
     has_region : after.log.region ≡ s.manifest.current.active
     has_region = ap (λ (l : LogState). l.region) same_log ∙ holds.whole.active_region
 
     -- nothing is found in the stores with all rows of the active log
     all_sound : IsTrue between.honest → IsSound (with_log_rows after.log.region (all_rows new after.log) (shown_stores new s))
-    all_sound h =
-        subst IsSound (sym (
+    all_sound h = subst IsSound (sym (
         ap (λ (x : Stores). with_log_rows after.log.region (all_rows new after.log) x) (shown_same h)
         ∙ ap (λ (rows : List StoredRow). with_log_rows after.log.region rows (shown_stores between s)) (active_rows h)
         ∙ ap (λ (n : ℕ). with_log_rows n (log_rows s.manifest.shape s.manifest.current.active between.shown) (shown_stores between s)) has_region
@@ -304,29 +245,14 @@ module _ (old between new : Content) (s : EngineState) (settles : Settles old be
         )) (holds.sound h)
 
     all_counted : IsTrue between.honest → s.charge ≡ put_count (rows_of (shown_stores new s) ++ waiting_rows new after.log)
-    all_counted h =
-        holds.counted h ∙ ap charge_of (sym (shown_same h))
-        ∙ ap put_count (sym (append-nil (rows_of (shown_stores new s))))
-        ∙ ap (λ (rows : List StoredRow). put_count (rows_of (shown_stores new s) ++ rows)) (sym (none_waiting new after.log settled))
+    all_counted h = cc (holds.counted h, shown_same h, append-nil (rows_of (shown_stores new s)), none_waiting new after.log settled)
 
     stands : Stands new (record s { active = after })
     stands =
         let sealed = seals.stands holds.active.indexed in
         record {
           has_size = sizes ∙ holds.has_size;
-          whole = record {
-            has_shape = ap (λ (l : LogState). l.shape) same_log ∙ holds.whole.has_shape;
-            active_region = has_region;
-            frozen_regions = holds.whole.frozen_regions;
-            settled = holds.whole.settled;
-            hash_regions = holds.whole.hash_regions;
-            hashed = holds.whole.hashed;
-            sorted = holds.whole.sorted;
-            held = holds.whole.held;
-            under_way = none_converts (record s { active = after }) holds.none_converted;
-            merging = none_merges (record s { active = after }) holds.none_merged;
-            most = holds.whole.most;
-          };
+          whole = search (arith, same_log, none_converts, none_merges);
           idle = holds.idle;
           current = stays_current_in;
           active = sealed.log;
@@ -340,7 +266,7 @@ module _ (old between new : Content) (s : EngineState) (settles : Settles old be
           merged = none_gathered new (record s { active = after }) holds.none_merged;
           named = record { each = λ honest image left. same_stores.each honest image left ∙ ap Ok (sym (shown_same (was honest))) };
           sound = λ h. all_sound (was h);
-          said = λ h. subst (AreDigestsOf s.manifest.digests) (sym (shown_same (was h))) (holds.said (was h));
+          said = λ h. rw (← (shown_same (was h))) at (holds.said (was h));
           counted = λ h. all_counted (was h);
         }
 
@@ -355,7 +281,5 @@ module _ (old between new : Content) (s : EngineState) (settles : Settles old be
       none_converted = holds.none_converted;
       none_merged = holds.none_merged;
       has_shape = λ o. sym (whole (here o)).has_shape ∙ ap shape_of (settles.shown o);
-      has_map = λ o.
-          ap (λ (x : Stores). map_of_rows (rows_of x)) (shown_same (here o))
-          ∙ ap map_of_rows (sym (rows_law between.shown (shown_stores between s) (holds.named (here o)))) ∙ ap image_map (settles.shown o);
+      has_map = λ o. cc (shown_same (here o), rows_law between.shown (shown_stores between s) (holds.named (here o)), settles.shown o);
     }

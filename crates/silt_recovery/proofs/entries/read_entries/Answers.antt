@@ -1,6 +1,4 @@
-use Rattle.std.proofs.Common.{ℕ, List, ap, sym, ◌∙◌}
-use Rattle.silt_image.specs.Meaning.{digest_findings}
-use Rattle.silt_recovery.specs.Digests.{bytes_said}
+use Rattle.silt_recovery.proofs.Common.{ℕ, List, ap, sym, ◌∙◌, digest_findings, bytes_said}
 use Rattle.silt_recovery.proofs.EntrySearches.{other_sorted, sound_sorted, unsound_entry}
 use Rattle.silt_recovery.proofs.entries.read_entries.Goals as goal
 

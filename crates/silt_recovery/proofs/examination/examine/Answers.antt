@@ -1,9 +1,4 @@
-use Rattle.std.proofs.Common.{◌≡◌, IsTrue, Err}
-use Rattle.std.proofs.lemmas.Result.{err_from_is_err_and}
-use Rattle.silt_disk.specs.Disk.{GaveAny, size}
-use Rattle.silt_disk.specs.Header.{header_of}
-use Rattle.silt_image.specs.Stores.{shape_found}
-use Rattle.silt_recovery.specs.Refusals.{IsFound}
+use Rattle.silt_recovery.proofs.Common.{◌≡◌, IsTrue, Err, err_from_is_err_and, GaveAny, size, header_of, shape_found, IsFound}
 use Rattle.silt_recovery.proofs.Manifests.{header_verdict}
 use Rattle.silt_recovery.proofs.Refusals.{refused_weaker}
 use Rattle.silt_recovery.proofs.examination.examine.Goals as goal

@@ -1,6 +1,4 @@
-use Rattle.std.proofs.Common.{ℕ, List, ap, sym, ◌∙◌}
-use Rattle.silt_image.specs.Meaning.{digest_findings}
-use Rattle.silt_recovery.specs.Digests.{bytes_said}
+use Rattle.silt_recovery.proofs.Common.{ℕ, List, ap, sym, ◌∙◌, digest_findings, bytes_said}
 use Rattle.silt_recovery.proofs.HashSearches.{damaged_slot, other_digest, sound_hash}
 use Rattle.silt_recovery.proofs.hashes.read_hash.Goals as goal
 

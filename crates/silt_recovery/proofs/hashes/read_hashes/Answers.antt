@@ -1,10 +1,6 @@
-use Rattle.std.proofs.Common.{◌+◌, ℕ, IsTrue, List, get_or, take, subst, sym, ◌∙◌, arith}
-use Rattle.std.proofs.lemmas.List.{take_all}
-use Rattle.std.proofs.lemmas.Result.{err_from_is_err_and}
-use Rattle.silt_disk.specs.Disk.{GaveAny}
-use Rattle.silt_hash_store.specs.State.{HashState}
-use Rattle.silt_recovery.specs.Digests.{bytes_said}
-use Rattle.silt_recovery.specs.Hashes.{AreReadHashes, HasFirstInRegion, HasFirstSlot}
+use Rattle.silt_recovery.proofs.Common.{◌+◌, ℕ, IsTrue, List, get_or, take, subst, sym, ◌∙◌, arith, take_all, err_from_is_err_and, GaveAny, HashState, bytes_said, AreReadHashes}
+use Rattle.silt_recovery.proofs.Common.{HasFirstSlot}
+use Rattle.silt_recovery.specs.Hashes.{HasFirstInRegion}
 use Rattle.silt_recovery.proofs.HashSearches.{next_slot_finding, one_more_hash}
 use Rattle.silt_recovery.proofs.Refusals.{refused_weaker}
 use Rattle.silt_recovery.proofs.hashes.read_hashes.Goals as goal

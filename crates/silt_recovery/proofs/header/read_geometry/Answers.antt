@@ -1,4 +1,4 @@
-use Rattle.std.proofs.Common.{arith}
+use Rattle.silt_recovery.proofs.Common.{arith}
 use Rattle.silt_image.proofs.HeaderExits.{too_short}
 use Rattle.silt_recovery.proofs.header.read_geometry.Goals as goal
 

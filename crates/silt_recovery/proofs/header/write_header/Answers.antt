@@ -1,7 +1,6 @@
-use Rattle.std.proofs.Common.{List, ℕ, sym, ◌∙◌, ap, subst, arith}
-use Rattle.silt_disk.specs.Disk.{Writes, splice}
+use Rattle.silt_recovery.proofs.Common.{List, ℕ, sym, ◌∙◌, ap, subst, arith, Writes, header_bytes}
+use Rattle.silt_disk.specs.Disk.{splice}
 use Rattle.silt_disk.proofs.Wrote.{wrote_err, wrote_ok, wrote_then, wrote_wider}
-use Rattle.silt_disk.specs.Header.{header_bytes}
 use Rattle.silt_recovery.proofs.Formats.{committed}
 use Rattle.silt_recovery.proofs.HalfFormats.{header_behind, header_committed}
 use Rattle.silt_recovery.proofs.header.write_header.Goals as goal

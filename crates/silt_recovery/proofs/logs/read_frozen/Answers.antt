@@ -1,9 +1,5 @@
-use Rattle.std.proofs.Common.{◌+◌, ℕ, IsTrue, List, [], ◌∷◌, get_or, take, subst, sym, ◌∙◌, arith}
-use Rattle.std.proofs.lemmas.List.{take_all}
-use Rattle.std.proofs.lemmas.Result.{err_from_is_err_and}
-use Rattle.silt_disk.specs.Disk.{GaveAny}
-use Rattle.silt_log_store.specs.State.{LogStoreState}
-use Rattle.silt_recovery.specs.Logs.{AreReadLogs, HasFirstFinding}
+use Rattle.silt_recovery.proofs.Common.{◌+◌, ℕ, IsTrue, List, [], ◌∷◌, get_or, take, subst, sym, ◌∙◌, arith, take_all, err_from_is_err_and, GaveAny, LogStoreState, AreReadLogs}
+use Rattle.silt_recovery.proofs.Common.{HasFirstFinding}
 use Rattle.silt_recovery.proofs.Frozen.{next_finding, one_more_read}
 use Rattle.silt_recovery.proofs.Refusals.{refused_weaker}
 use Rattle.silt_recovery.proofs.logs.read_frozen.Goals as goal

@@ -1,5 +1,5 @@
-use Rattle.std.proofs.Common.{◌≤◌, ◌*◌, ◌^◌, take, vec_capacity}
-use Rattle.silt_recovery.specs.Logs.{AreReadLogs}
+use Rattle.silt_recovery.proofs.Common.{◌≤◌, ◌*◌, take, AreReadLogs}
+use Rattle.std.proofs.Common.{◌^◌, vec_capacity}
 use Rattle.silt_recovery.proofs.logs.read_frozen.Given as goal
 
 -- the logs so far are read, and there is room for all

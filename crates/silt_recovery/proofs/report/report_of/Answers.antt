@@ -1,8 +1,6 @@
-use Rattle.std.proofs.Common.{◌≤◌, List, All, length, sum_by, sym, ap, ◌∙◌, subst}
+use Rattle.silt_recovery.proofs.Common.{◌≤◌, List, All, length, sum_by, sym, ap, ◌∙◌, subst, LogStoreState, EngineState}
 use Rattle.silt_image.specs.Meaning.{layout_of}
-use Rattle.silt_log_store.specs.State.{LogStoreState}
 use Rattle.silt_manifest.specs.Standing.{current_slot}
-use Rattle.silt_standing.specs.State.{EngineState}
 use Rattle.silt_recovery.specs.Opening.{held_stores}
 use Rattle.silt_recovery.proofs.Reports.{few_frozen, few_rows, reported_so, used_rows}
 use Rattle.silt_recovery.proofs.report.report_of.Goals as goal

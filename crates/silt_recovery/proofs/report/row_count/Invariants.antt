@@ -1,4 +1,4 @@
-use Rattle.std.proofs.Common.{◌≡◌, ◌≤◌, ◌*◌, take, sum_by}
+use Rattle.silt_recovery.proofs.Common.{◌≡◌, ◌≤◌, ◌*◌, take, sum_by}
 use Rattle.silt_recovery.proofs.Reports.{used_rows}
 use Rattle.silt_recovery.proofs.report.row_count.Given as goal
 
