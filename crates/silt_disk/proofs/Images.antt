@@ -1,8 +1,8 @@
 -- The possible crash images after each call, one image at a time.
-use Rattle.std.proofs.Common.{◌≡◌, ℕ, ◌+◌, ◌-◌, ◌≤◌, ◌<◌, true, false, cond, List, ◌++◌, length, take, drop, get_or, map, slice_range, IsTrue, refl, sym, ap, ◌∙◌, subst, inl, inr, arith}
+use Rattle.std.proofs.Common.{◌≡◌, ℕ, ◌+◌, ◌≤◌, ◌<◌, true, false, cond, List, length, get_or, map, slice_range, IsTrue, refl, sym, ap, ◌∙◌, arith}
 use Rattle.std.specs.List.{range_with_len}
-use Rattle.std.proofs.lemmas.List.{ext_get_or, get_or_past, append_assoc, length-append, length-take-le, length-drop, get_or_append_left, get_or-append_right}
-use Rattle.std.proofs.lemmas.List.{get_or-take, get_or-drop, take_at, drop_at}
+use Rattle.std.proofs.lemmas.List.{ext_get_or, get_or_past, append_assoc, length-append, length-take-le, length-drop, get_or_append_left, get_or-append_right, get_or-take, get_or-drop}
+use Rattle.std.proofs.lemmas.List.{take_at, drop_at}
 use Rattle.std.proofs.lemmas.List.FromFn.{length-map-range_with_len, get_or-map-range_with_len}
 use Rattle.std.proofs.lemmas.List.Edits.{length-between, get_or-between}
 use Rattle.std.proofs.lemmas.Bool.{cases_lt, cases_Bool, cond-true, cond-false}
@@ -35,50 +35,25 @@ torn_slice_after at count old new torn from to above fits =
 
 -- a completed write keeps the length
 pub length-splice : (at : ℕ) (bytes image : List ℕ) → at + length bytes ≤ length image → length (splice at bytes image) ≡ length image
-length-splice at bytes image fits = omega (
-  arith,
-  length-append (take at image) bytes,
-  length-append (take at image ++ bytes) (drop (at + length bytes) image),
-  length-take-le at image (omega arith),
-  length-drop (at + length bytes) image,
-)
+length-splice at bytes image fits = search (arith, length-append, length-take-le, length-drop)
 
 -- a completed write changes its range alone
 pub torn_splice : (at : ℕ) (bytes image : List ℕ) → at + length bytes ≤ length image → Torn at (length bytes) image (splice at bytes image)
-torn_splice at bytes image fits =
-    let front : length (take at image) ≡ at = length-take-le at image (omega arith) in
-    let both : length (take at image ++ bytes) ≡ at + length bytes = omega (arith, front, length-append (take at image) bytes) in
-    record {
-      size = length-splice at bytes image fits;
-      before = λ place below. get_or_append_left (take at image ++ bytes) _ 0 place (omega arith) ∙ get_or_append_left (take at image) bytes 0 place (omega arith) ∙ get_or-take at image place 0 below;
-      after = λ place above.
-          get_or-append_right (take at image ++ bytes) _ (at + length bytes) place 0 both above
-          ∙ get_or-drop (at + length bytes) image (place - (at + length bytes)) 0
-          ∙ ap (λ (n : ℕ). get_or image n 0) (omega arith);
-    }
+torn_splice at bytes image fits = search (arith, length-take-le, length-append, length-splice, get_or_append_left, get_or-take, get_or-append_right, get_or-drop)
 
 -- the range of a write has its bytes
 pub splice_slice : (at : ℕ) (bytes image : List ℕ) → at + length bytes ≤ length image → slice_range (splice at bytes image) at (at + length bytes) ≡ bytes
-splice_slice at bytes image fits =
-    let front : length (take at image) ≡ at = length-take-le at image (omega arith) in
-    let rest : drop at (splice at bytes image) ≡ bytes ++ drop (at + length bytes) image = ap (drop at) (append_assoc (take at image) bytes _) ∙ drop_at (take at image) _ at front in
-    ap (take (at + length bytes - at)) rest ∙ take_at bytes _ (at + length bytes - at) (omega arith)
+splice_slice at bytes image fits = search (arith, length-take-le, append_assoc, drop_at, take_at)
 
 -- each place of a write has its byte
 pub splice_byte : (at : ℕ) (bytes image : List ℕ) (place : ℕ) → at + length bytes ≤ length image → place < length bytes → get_or (splice at bytes image) (at + place) 0 ≡ get_or bytes place 0
-splice_byte at bytes image place fits inside =
-    let front : length (take at image) ≡ at = length-take-le at image (omega arith) in
-    let both : length (take at image ++ bytes) ≡ at + length bytes = omega (arith, front, length-append (take at image) bytes) in
-    get_or_append_left (take at image ++ bytes) _ 0 (at + place) (omega arith)
-    ∙ get_or-append_right (take at image) bytes at (at + place) 0 front (omega arith)
-    ∙ ap (λ (n : ℕ). get_or bytes n 0) (omega arith)
+splice_byte at bytes image place fits inside = search (arith, length-take-le, length-append, get_or_append_left, get_or-append_right)
 
 -- ---- each image
 
 -- the image with the settled bytes in the range
 abbrev undone : ℕ → ℕ → List ℕ → List ℕ → List ℕ
-undone at count settled image =
-    map (λ place. cond (within at count place) (get_or settled place 0) (get_or image place 0)) (range_with_len 0 (length settled))
+undone at count settled image = map (λ place. cond (within at count place) (get_or settled place 0) (get_or image place 0)) (range_with_len 0 (length settled))
 
 module _ (at count : ℕ) (settled image : List ℕ) (size : length image ≡ length settled) where
   -- it has the same length
@@ -87,21 +62,11 @@ module _ (at count : ℕ) (settled image : List ℕ) (size : length image ≡ le
 
   -- in the range it has the settled byte
   undone_there : (place : ℕ) → within at count place ≡ true → get_or (undone at count settled image) place 0 ≡ get_or settled place 0
-  undone_there place there =
-      elim (cases_lt place (length settled)) [
-        | inl inside ↦ get_or-map-range_with_len (λ place. cond (within at count place) (get_or settled place 0) (get_or image place 0))
-            0 (length settled) place place 0 inside (omega arith) ∙ cond-true _ _ _ there
-        | inr past ↦ get_or_past _ place 0 (omega (arith, length-undone)) ∙ sym (get_or_past settled place 0 past)
-      ]
+  undone_there place there = search (arith, cases_lt, get_or-map-range_with_len, cond-true, get_or_past, length-undone)
 
   -- outside the range it has the image's byte
   undone_elsewhere : (place : ℕ) → within at count place ≡ false → get_or (undone at count settled image) place 0 ≡ get_or image place 0
-  undone_elsewhere place elsewhere =
-      elim (cases_lt place (length settled)) [
-        | inl inside ↦ get_or-map-range_with_len (λ place. cond (within at count place) (get_or settled place 0) (get_or image place 0))
-            0 (length settled) place place 0 inside (omega arith) ∙ cond-false _ _ _ elsewhere
-        | inr past ↦ get_or_past _ place 0 (omega (arith, length-undone)) ∙ sym (get_or_past image place 0 (omega arith))
-      ]
+  undone_elsewhere place elsewhere = search (arith, cases_lt, get_or-map-range_with_len, cond-false, get_or_past, length-undone)
 
 -- a place before the range is outside it
 within_below : (at count place : ℕ) → place < at → within at count place ≡ false
@@ -113,9 +78,7 @@ within_above at count place above = grind (arith, nat_tests)
 
 -- if nothing is pending, a crash leaves what is shown
 pub left_at_rest : {content : Content} → Rests content → IsTrue content.honest → (image : List ℕ) → Left content image → image ≡ content.shown
-left_at_rest rests honest image left =
-    ext_get_or 0 _ _ (left.size ∙ ap length (rests.settled honest))
-    (λ place inside. left.same place (rests.pending honest place) ∙ ap (λ (l : List ℕ). get_or l place 0) (rests.settled honest))
+left_at_rest rests honest image left = ext_get_or 0 _ _ (left.size ∙ ap length (rests.settled honest)) (search (arith, left.same, rests.pending, rests.settled))
 
 -- after a sync that returned Ok, a crash leaves what was shown
 pub left_after_sync : {old new : Content} → Settles old new → IsTrue old.honest → (image : List ℕ) → Left new image → image ≡ old.shown
@@ -128,20 +91,8 @@ left_after_write {at} {count} {old} {new} tears honest image left =
     let size : length image ≡ length old.settled = left.size ∙ ap length (tears.settled honest) in
     let was = undone at count old.settled image in (
       was,
-      record {
-        size = length-undone at count old.settled image size;
-        same = λ place settled. elim (cases_Bool (within at count place)) [
-          | inl there ↦ undone_there at count old.settled image size place there
-          | inr elsewhere ↦
-              let still : new.pending place ≡ false = tears.pending honest place ∙ (rw (settled, elsewhere) refl) in
-              undone_elsewhere at count old.settled image size place elsewhere ∙ left.same place still ∙ ap (λ (l : List ℕ). get_or l place 0) (tears.settled honest)
-        ];
-      },
-      record {
-        size = size ∙ sym (length-undone at count old.settled image size);
-        before = λ place below. sym (undone_elsewhere at count old.settled image size place (within_below at count place below));
-        after = λ place above. sym (undone_elsewhere at count old.settled image size place (within_above at count place above));
-      },
+      search (arith, length-undone, cases_Bool, undone_there, undone_elsewhere, tears.pending, left.same, tears.settled),
+      search (arith, length-undone, undone_elsewhere, within_below, within_above),
     )
 
 -- ---- from call to call
@@ -159,73 +110,40 @@ write_leaves tears leaves step = record {
 -- a write, Ok: what is shown has the property that the bytes bring about
 pub write_shows : {at : ℕ} {bytes : List ℕ} {old new : Content} {P Q : List ℕ → Type 0} → Writes at bytes old new → Shows old P
     → ((before : List ℕ) → P before → Q (splice at bytes before)) → Shows new Q
-write_shows {Q = Q} writes shows step = record {
-  holds = λ honest.
-      let was : IsTrue _ = sym writes.honest ∙ honest in
-      subst Q (sym (writes.shown was)) (step _ (shows.holds was));
-}
+write_shows {Q = Q} writes shows step = search (arith, writes.shown, shows.holds)
 
 -- if nothing is pending, what holds for the shown bytes holds for each image
 pub rests_leaves : {content : Content} {P : List ℕ → Type 0} → Rests content → Shows content P → LeavesOnly content P
-rests_leaves {P = P} rests shows = record {
-  each = λ honest image left. subst P (sym (left_at_rest rests honest image left)) (shows.holds honest);
-}
+rests_leaves {P = P} rests shows = search (arith, left_at_rest, shows.holds)
 
 -- a sync, Ok: what held for the shown bytes holds for each image
 pub sync_leaves : {old new : Content} {P : List ℕ → Type 0} → Settles old new → Shows old P → LeavesOnly new P
-sync_leaves {P = P} settles shows = record {
-  each = λ honest image left.
-      let was : IsTrue _ = sym settles.honest ∙ honest in
-      subst P (sym (left_after_sync settles was image left)) (shows.holds was);
-}
+sync_leaves {P = P} settles shows = search (arith, left_after_sync, shows.holds)
 
 -- a sync, Ok: the shown bytes stay
 pub sync_shows : {old new : Content} {P : List ℕ → Type 0} → Settles old new → Shows old P → Shows new P
-sync_shows {P = P} settles shows = record {
-  holds = λ honest.
-      let was : IsTrue _ = sym settles.honest ∙ honest in
-      subst P (sym (settles.shown was)) (shows.holds was);
-}
+sync_shows {P = P} settles shows = search (arith, settles.shown, shows.holds)
 
 -- after a failed sync, a crash leaves what it could leave before
 pub left_after_failed_sync : {old new : Content} → Stays old new → IsTrue old.honest → (image : List ℕ) → Left new image → Left old image
-left_after_failed_sync stays honest image left = record {
-  size = left.size ∙ ap length (stays.settled honest);
-  same = λ place settled. left.same place (stays.pending honest place ∙ settled) ∙ ap (λ (l : List ℕ). get_or l place 0) (stays.settled honest);
-}
+left_after_failed_sync stays honest image left = search (arith, stays.settled, left.same, stays.pending)
 
 -- a failed sync: each image stays possible
 pub failed_sync_leaves : {old new : Content} {P : List ℕ → Type 0} → Stays old new → LeavesOnly old P → LeavesOnly new P
-failed_sync_leaves stays leaves = record {
-  each = λ honest image left.
-      let was : IsTrue _ = sym stays.honest ∙ honest in
-      leaves.each was image (left_after_failed_sync stays was image left);
-}
+failed_sync_leaves stays leaves = search (arith, left_after_failed_sync, leaves.each)
 
 -- a failed sync: the shown bytes stay
 pub failed_sync_shows : {old new : Content} {P : List ℕ → Type 0} → Stays old new → Shows old P → Shows new P
-failed_sync_shows {P = P} stays shows = record {
-  holds = λ honest.
-      let was : IsTrue _ = sym stays.honest ∙ honest in
-      subst P (sym (stays.shown was)) (shows.holds was);
-}
+failed_sync_shows {P = P} stays shows = search (arith, stays.shown, shows.holds)
 
 -- a failed write may change what is shown, in its range
 pub failed_write_shows : {at count : ℕ} {old new : Content} {P Q : List ℕ → Type 0} → Tears at count old new → Shows old P
     → ((before after : List ℕ) → P before → Torn at count before after → Q after) → Shows new Q
-failed_write_shows tears shows step = record {
-  holds = λ honest.
-      let was : IsTrue _ = sym tears.honest ∙ honest in
-      step _ _ (shows.holds was) (tears.shown was);
-}
+failed_write_shows tears shows step = search (arith, shows.holds, tears.shown)
 
 -- after a crash, one of its possible images is what is shown, and what a further crash leaves
 pub restart_shows : {old new : Content} {P : List ℕ → Type 0} → Restarts old new → LeavesOnly old P → Shows new P
-restart_shows restarts leaves = record {
-  holds = λ honest.
-      let was : IsTrue _ = sym restarts.honest ∙ honest in
-      leaves.each was _ (restarts.left was);
-}
+restart_shows restarts leaves = search (arith, leaves.each, restarts.left)
 
 -- a further crash leaves only images that the first crash could leave
 pub restart_leaves : {old new : Content} {P : List ℕ → Type 0} → Restarts old new → LeavesOnly old P → LeavesOnly new P
@@ -261,19 +179,11 @@ sized_shows shows = record { holds = λ honest. (refl, shows.holds honest) }
 
 -- two changes in the same range are one
 pub torn_trans : {at count : ℕ} {a b c : List ℕ} → Torn at count a b → Torn at count b c → Torn at count a c
-torn_trans first second = record {
-  size = second.size ∙ first.size;
-  before = λ place below. second.before place below ∙ first.before place below;
-  after = λ place above. second.after place above ∙ first.after place above;
-}
+torn_trans first second = search (arith, second.before, first.before, second.after, first.after)
 
 -- a change in a range is a change in a wider range
 pub torn_wider : {at count : ℕ} {a b : List ℕ} (from long : ℕ) → from ≤ at → at + count ≤ from + long → Torn at count a b → Torn from long a b
-torn_wider from long low high torn = record {
-  size = torn.size;
-  before = λ place below. torn.before place (omega arith);
-  after = λ place above. torn.after place (omega arith);
-}
+torn_wider from long low high torn = search (arith, torn.before, torn.after)
 
 -- a write, Ok or Err, changes no more than its range
 pub write_within : {at count : ℕ} {old new : Content} → Tears at count old new → ChangesWithin at count old new
@@ -281,27 +191,15 @@ write_within tears = record { honest = tears.honest; shown = tears.shown; left =
 
 -- a sync, Ok, changes no image outside any range
 pub sync_within : (at count : ℕ) {old new : Content} → Settles old new → ChangesWithin at count old new
-sync_within at count {old} settles = record {
-  honest = settles.honest;
-  shown = λ honest. subst (λ image. Torn at count old.shown image) (sym (settles.shown honest)) (torn_refl at count old.shown);
-  left = λ honest image left. (old.shown, shown_left old, subst (λ image. Torn at count old.shown image) (sym (left_after_sync settles honest image left)) (torn_refl at count old.shown));
-}
+sync_within at count {old} settles = search (arith, torn_refl, shown_left, left_after_sync, settles.shown)
 
 -- nor does a failed sync
 pub failed_sync_within : (at count : ℕ) {old new : Content} → Stays old new → ChangesWithin at count old new
-failed_sync_within at count {old} stays = record {
-  honest = stays.honest;
-  shown = λ honest. subst (λ image. Torn at count old.shown image) (sym (stays.shown honest)) (torn_refl at count old.shown);
-  left = λ honest image left. (image, left_after_failed_sync stays honest image left, torn_refl at count image);
-}
+failed_sync_within at count {old} stays = search (arith, torn_refl, left_after_failed_sync, stays.shown)
 
 -- no call: nothing changes
 pub within_refl : (at count : ℕ) (content : Content) → ChangesWithin at count content content
-within_refl at count content = record {
-  honest = refl;
-  shown = λ honest. torn_refl at count content.shown;
-  left = λ honest image left. (image, left, torn_refl at count image);
-}
+within_refl at count content = search (arith, torn_refl)
 
 -- calls that change only a range, followed by more such calls
 pub within_trans : {at count : ℕ} {a b c : Content} → ChangesWithin at count a b → ChangesWithin at count b c → ChangesWithin at count a c
@@ -337,11 +235,7 @@ within_leaves changes leaves step = record {
 -- what is shown keeps it too
 pub within_shows : {at count : ℕ} {old new : Content} {P Q : List ℕ → Type 0} → ChangesWithin at count old new → Shows old P
     → ((before after : List ℕ) → P before → Torn at count before after → Q after) → Shows new Q
-within_shows changes shows step = record {
-  holds = λ honest.
-      let was : IsTrue _ = sym changes.honest ∙ honest in
-      step _ _ (shows.holds was) (changes.shown was);
-}
+within_shows changes shows step = search (arith, shows.holds, changes.shown)
 
 -- two properties of each image
 pub both_leaves : {content : Content} {P Q : List ℕ → Type 0} → LeavesOnly content P → LeavesOnly content Q → LeavesOnly content (λ image. P image × Q image)

@@ -1,9 +1,8 @@
 -- The laws of disks that a crate above cites. Their variables are written out, so that a search finds them by name.
 use Rattle.std.proofs.Common.{◌≡◌, ℕ, ◌+◌, ◌≤◌, List, length, slice_range, IsTrue, sym, ◌∙◌, arith}
 use Rattle.silt_disk.specs.Disk.{Content, Torn, Left, LeavesOnly, Shows, Tears, Writes, Settles, Stays, Rests, Restarts, ChangesWithin, size, splice}
-use Rattle.silt_disk.proofs.Images.{torn_slice_before, torn_slice_after, left_at_rest, rests_leaves, write_shows, restart_shows, restart_leaves, weaker_leaves}
-use Rattle.silt_disk.proofs.Images.{weaker_shows, shown_left, within_refl, within_trans, within_wider, within_leaves, within_shows, write_within, sync_within}
-use Rattle.silt_disk.proofs.Images.{failed_sync_within, both_leaves, sized_leaves}
+use Rattle.silt_disk.proofs.Images.{torn_slice_before, torn_slice_after, left_at_rest, rests_leaves, write_shows, restart_shows, restart_leaves, weaker_leaves, weaker_shows, shown_left}
+use Rattle.silt_disk.proofs.Images.{within_refl, within_trans, within_wider, within_leaves, within_shows, write_within, sync_within, failed_sync_within, both_leaves, sized_leaves}
 
 -- ---- the possible crash images
 

@@ -1,5 +1,5 @@
 -- What functions that write do to the disk, one after the other.
-use Rattle.std.proofs.Common.{◌≡◌, ℕ, ◌+◌, ◌%◌, ◌^◌, ◌≤◌, Result, Ok, Err, MatchResult, IsErrAnd, OnOk, OnErr, refl, sym, ap, subst, ◌∙◌, arith}
+use Rattle.std.proofs.Common.{◌≡◌, ℕ, ◌+◌, ◌%◌, ◌^◌, ◌≤◌, Result, Ok, Err, MatchResult, IsErrAnd, OnOk, OnErr, refl, arith}
 use Rattle.std.proofs.lemmas.Result.{err_from_is_err_and}
 use Rattle.silt_disk.specs.Disk.{Tears, Settles, Stays, Makes, Costs, CountsFault, size}
 use Rattle.silt_disk.specs.Wrote.{WroteOr, Wrote}
@@ -19,15 +19,13 @@ success E x = Ok x
 -- after Ok of the first calls, what the others cost is added
 costs_then : {D F T : Type 0} (facts : Ghosts D F) (a b c d : ℕ) (old mid new : D) (result : Result T F) → Makes facts.writes facts.syncs a b old mid
     → Costs facts.writes facts.syncs c d mid new result → Costs facts.writes facts.syncs (a + c) (b + d) old new result
-costs_then facts a b c d old mid new (Ok x) first second = made_both mid first second refl refl
-costs_then facts a b c d old mid new (Err e) first second = most_both mid first second (omega arith) (omega arith)
+costs_then facts a b c d old mid new result first second = search (arith, made_both, most_both)
 
 -- after Ok of the first calls, a failure of the others is the only one
 counts_then : {D F T : Type 0} (facts : Ghosts D F) (old mid new : D) (result : Result T F) → facts.failures mid ≡ facts.failures old
     → MatchResult result (λ _. facts.failures new ≡ facts.failures mid) (CountsFault facts.failures facts.gave mid new)
     → MatchResult result (λ _. facts.failures new ≡ facts.failures old) (CountsFault facts.failures facts.gave old new)
-counts_then facts old mid new (Ok x) same counts = counts ∙ same
-counts_then facts old mid new (Err e) same counts = (counts.0 ∙ ap (λ n. (n + 1) % 2 ^ 64) same, counts.1)
+counts_then facts old mid new result same counts = search arith
 
 module _ {D F : Type 0} {facts : Ghosts D F} where
   -- no call
@@ -47,12 +45,7 @@ module _ {D F : Type 0} {facts : Ghosts D F} where
   -- an error is passed on by a function that may make more calls
   pub wrote_err : {T U E : Type 0} {Fails : E → Type 0} {at count a b w s : ℕ} {old new : D} {first : Result T E} {fault : E} {result : Result U E} → first ≡ Err fault
       → IsErrAnd result (λ e. e ≡ fault) → a ≤ w → b ≤ s → WroteOr facts Fails at count a b old new first → WroteOr facts Fails at count w s old new result
-  wrote_err {T} {U} {E} {Fails} {at} {count} {a} {b} {w} {s} {old} {new} {first} {fault} {result} was is writes syncs wrote =
-      let refused = err_from_is_err_and result is in
-      let failed : WroteOr facts Fails at count a b old new (failure T fault) = subst (λ r. WroteOr facts Fails at count a b old new r) was wrote in
-      let passed : WroteOr facts Fails at count w s old new (failure U fault) =
-      record { size = failed.size; changes = failed.changes; made = most_more failed.made writes syncs; failures = failed.failures } in
-      subst (λ r. WroteOr facts Fails at count w s old new r) (sym (refused.1 ∙ ap (failure U) refused.2)) passed
+  wrote_err {T} {U} {E} {Fails} {at} {count} {a} {b} {w} {s} {old} {new} {first} {fault} {result} was is writes syncs wrote = search (arith, err_from_is_err_and, most_more)
 
   -- no call, and an error
   pub wrote_refused : {T E : Type 0} {Fails : E → Type 0} (at count w s : ℕ) (disk : D) (fault : E) → Fails fault → WroteOr facts Fails at count w s disk disk (failure T fault)
@@ -61,35 +54,26 @@ module _ {D F : Type 0} {facts : Ghosts D F} where
   -- an error is returned as another one
   pub wrote_failed : {T U E G : Type 0} {Fails : E → Type 0} {FailsAs : G → Type 0} {at count w s : ℕ} {old new : D} {first : Result T E} {fault : E} {other : G} → first ≡ Err fault
       → FailsAs other → WroteOr facts Fails at count w s old new first → WroteOr facts FailsAs at count w s old new (failure U other)
-  wrote_failed {T} {U} {E} {G} {Fails} {FailsAs} {at} {count} {w} {s} {old} {new} {first} {fault} {other} was fails wrote =
-      let failed : WroteOr facts Fails at count w s old new (failure T fault) = subst (λ r. WroteOr facts Fails at count w s old new r) was wrote in
-      record { size = failed.size; changes = failed.changes; made = failed.made; failures = fails }
+  wrote_failed {T} {U} {E} {G} {Fails} {FailsAs} {at} {count} {w} {s} {old} {new} {first} {fault} {other} was fails wrote = search arith
 
   -- after Ok of the first calls, the others
   pub wrote_then : {T U E : Type 0} {Fails : E → Type 0} {at count a b c d : ℕ} {old mid new : D} {first : Result U E} {x : U} {result : Result T F} → first ≡ Ok x
       → WroteOr facts Fails at count a b old mid first → Wrote facts at count c d mid new result → Wrote facts at count (a + c) (b + d) old new result
   wrote_then {T} {U} {E} {Fails} {at} {count} {a} {b} {c} {d} {old} {mid} {new} {first} {x} {result} was before after =
-      let done : WroteOr facts Fails at count a b old mid (success E x) = subst (λ r. WroteOr facts Fails at count a b old mid r) was before in
-      record {
-        size = after.size ∙ done.size;
-        changes = within_trans done.changes after.changes;
-        made = costs_then facts a b c d old mid new result done.made after.made;
-        failures = counts_then facts old mid new result done.failures after.failures;
-      }
+      let done : WroteOr facts Fails at count a b old mid (success E x) = rw was at before in
+      search (arith, within_trans, costs_then, counts_then)
 
   -- the Ok of the last calls is that of the whole
   pub wrote_ok : {T U E : Type 0} {Fails : E → Type 0} {at count w s : ℕ} {old new : D} {first : Result U E} {x : U} {y : T} → first ≡ Ok x
       → WroteOr facts Fails at count w s old new first → WroteOr facts Fails at count w s old new (Ok y)
-  wrote_ok {T} {U} {E} {Fails} {at} {count} {w} {s} {old} {new} {first} {x} {y} was wrote =
-      let done : WroteOr facts Fails at count w s old new (success E x) = subst (λ r. WroteOr facts Fails at count w s old new r) was wrote in
-      record { size = done.size; changes = done.changes; made = done.made; failures = done.failures }
+  wrote_ok {T} {U} {E} {Fails} {at} {count} {w} {s} {old} {new} {first} {x} {y} was wrote = search arith
 
   -- a write of a disk
   pub write_wrote : {T : Type 0} {at count : ℕ} {old new : D} (result : Result T F) → size (facts.content new) ≡ size (facts.content old) → Makes facts.writes facts.syncs 1 0 old new
       → Tears at count (facts.content old) (facts.content new)
       → MatchResult result (λ _. facts.failures new ≡ facts.failures old) (λ fault. (facts.failures new ≡ (facts.failures old + 1) % 2 ^ 64) × facts.gave new fault Write at count)
       → Wrote facts at count 1 0 old new result
-  write_wrote (Ok x) same made torn failures = record { size = same; changes = write_within torn; made = made; failures = failures }
+  write_wrote (Ok x) same made torn failures = search (arith, write_within)
   write_wrote {T} {at} {count} (Err fault) same made torn failures = record {
     size = same;
     changes = write_within torn;
@@ -103,10 +87,5 @@ module _ {D F : Type 0} {facts : Ghosts D F} where
       → MatchResult result (λ _. facts.failures new ≡ facts.failures old)
       (λ fault. (facts.failures new ≡ (facts.failures old + 1) % 2 ^ 64) × facts.gave new fault Sync 0 (size (facts.content new)))
       → Wrote facts at count 0 1 old new result
-  sync_wrote at count (Ok x) same made settles stays failures = record { size = same; changes = sync_within at count settles; made = made; failures = failures }
-  sync_wrote {T} {old} {new} at count (Err fault) same made settles stays failures = record {
-    size = same;
-    changes = failed_sync_within at count stays;
-    made = most_made made (omega arith) (omega arith);
-    failures = (failures.0, (Sync, 0, size (facts.content new), failures.1));
-  }
+  sync_wrote at count (Ok x) same made settles stays failures = search (arith, sync_within)
+  sync_wrote {T} {old} {new} at count (Err fault) same made settles stays failures = search (arith, failed_sync_within, most_made)
