@@ -1,6 +1,6 @@
 -- The bytes of the rows in slots, as a hasher is fed them.
-use Rattle.std.proofs.Common.{◌≡◌, ℕ, zero, suc, ◌+◌, ◌-◌, ◌*◌, ◌≤◌, ◌<◌, Result, Ok, Err, OnOk, List, [], ◌++◌, length, take, drop, slice_range, refl, sym}
-use Rattle.std.proofs.Common.{subst, ap, ◌∙◌, arith, append_assoc, append-nil}
+use Rattle.std.proofs.Common.{◌≡◌, ℕ, zero, suc, ◌+◌, ◌*◌, ◌≤◌, ◌<◌, Result, Ok, Err, OnOk, List, [], ◌++◌, length, take, drop, slice_range, refl, sym, subst, ap, ◌∙◌, arith, append_assoc}
+use Rattle.std.proofs.Common.{append-nil}
 use Rattle.std.proofs.lemmas.List.{take_all}
 use Rattle.std.proofs.lemmas.List.Edits.{length-between}
 use Rattle.std.proofs.Math.Nat.{add-mul}
@@ -35,30 +35,26 @@ module _ (s : Shape) (region first count : ℕ) (image bytes : List ℕ) (holds 
   -- the bytes of one of them
   bytes_at : (i : ℕ) → i < count → row_bytes (slot_row s region image (first + i)) ≡ take len (drop (i * len) bytes)
   bytes_at i below =
-      let inside : 0 + i * len + len ≤ 0 + count * len = body_before 0 len i count below in
-      let part : length (slice_range bytes (i * len) (i * len + len)) ≡ i * len + len - i * len = length-between bytes (i * len) (i * len + len) (omega (arith, inside, long)) in
       ap row_bytes (holds i below)
-      ∙ row_bytes_of (slice_range bytes (i * len) (i * len + len)) (omega (arith, part))
+      ∙ row_bytes_of _ (omega (arith, length-between bytes (i * len) (i * len + len) (omega (arith, body_before 0 len i count below, long))))
       ∙ ap (λ (n : ℕ). take n (drop (i * len) bytes)) (omega arith)
 
   -- the bytes of the first of them
   bytes_before : (n : ℕ) → n ≤ count → rows_bytes (rows_before s region image (first + n)) ≡ front ++ take (n * len) bytes
-  bytes_before zero most =
-      let here : first + 0 ≡ first = omega arith in
-      let none : 0 ≡ 0 * len = omega arith in
-      ap (λ (n : ℕ). rows_bytes (rows_before s region image n)) here ∙ sym (append-nil front) ∙ ap (λ (k : ℕ). front ++ take k bytes) none
+  bytes_before zero most = search (arith, append-nil)
   bytes_before (suc n) most =
       let row : List ℕ = row_bytes (slot_row s region image (first + n)) in
       let further : first + suc n ≡ first + n + 1 = omega arith in
       let one : suc n ≡ n + 1 = omega arith in
       let next : n * len + len ≡ suc n * len = omega (arith, add-mul n 1 len, ap (λ (k : ℕ). k * len) one) in
-      ap (λ (k : ℕ). rows_bytes (rows_before s region image k)) further
-      ∙ ap rows_bytes (before_more s region image (first + n))
-      ∙ rows_bytes_more (rows_before s region image (first + n)) (slot_row s region image (first + n))
-      ∙ ap (λ (l : List ℕ). l ++ row) (bytes_before n (omega arith))
-      ∙ append_assoc front (take (n * len) bytes) row
-      ∙ ap (λ (l : List ℕ). front ++ (take (n * len) bytes ++ l)) (bytes_at n (omega arith))
-      ∙ ap (λ (l : List ℕ). front ++ l) (sym (take-add (n * len) len bytes) ∙ ap (λ (k : ℕ). take k bytes) next)
+      cc (
+        before_more s region image (first + n),
+        rows_bytes_more (rows_before s region image (first + n)) (slot_row s region image (first + n)),
+        bytes_before n (omega arith),
+        append_assoc front (take (n * len) bytes) row,
+        bytes_at n (omega arith),
+        take-add (n * len) len bytes,
+      )
 
   -- the bytes of all of them are those that were read
   pub bytes_read : rows_bytes (rows_before s region image (first + count)) ≡ front ++ bytes
@@ -70,14 +66,10 @@ hash_bytes s region image fits =
     let at : ℕ = hash_at s region in
     let bytes : List ℕ = slice_range image at (at + slots_len s) in
     let here : at ≡ at + 0 * row_len s = omega arith in
-    let part : length bytes ≡ at + slots_len s - at = length-between image at (at + slots_len s) fits in
-    let long : length bytes ≡ 4 * s.buckets * row_len s = omega (arith, part) in
-    let holds : HoldsSlots s region image 0 (4 * s.buckets) bytes = slots_read s region 0 (4 * s.buckets) at (slots_len s) image bytes here refl fits refl in
+    let long : length bytes ≡ 4 * s.buckets * row_len s = omega (arith, length-between image at (at + slots_len s) fits) in
+    let holds : HoldsSlots s region image 0 (4 * s.buckets) bytes = slots_read s region 0 _ at (slots_len s) image bytes here refl fits refl in
     let number : 4 * s.buckets ≡ 0 + 4 * s.buckets = omega arith in
-    ap rows_bytes (all_before s region image)
-    ∙ ap (λ (n : ℕ). rows_bytes (rows_before s region image n)) number
-    ∙ bytes_read s region 0 (4 * s.buckets) image bytes holds long
-    ∙ ap (λ (rows : List StoredRow). rows_bytes rows ++ bytes) (none_before s region image)
+    cc (all_before s region image, bytes_read s region 0 (4 * s.buckets) image bytes holds long, none_before s region image)
 
 -- ---- a hasher
 
@@ -92,8 +84,7 @@ more_fed hasher store first count image bytes holds long fed = subst (λ (l : Li
 
 -- of a store of the same region
 pub fed_same : (hasher : Sha1) (a b : HashState) (image : List ℕ) (count : ℕ) → a.shape ≡ b.shape → a.region ≡ b.region → IsFed hasher a image count → IsFed hasher b image count
-fed_same hasher a b image count shape number fed =
-    subst (λ (n : ℕ). Holds hasher (rows_bytes (rows_before b.shape n image count))) number (subst (λ (s : Shape). Holds hasher (rows_bytes (rows_before s a.region image count))) shape fed)
+fed_same hasher a b image count shape number fed = grind arith
 
 -- what holds anyway holds if a call succeeds
 pub ends_well : {X E : Type 0} (result : Result X E) (P : Type 0) → P → OnOk result P

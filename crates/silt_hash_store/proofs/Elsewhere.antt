@@ -1,13 +1,11 @@
 -- What calls on other parts of the disk leave of a hash store.
-use Rattle.std.proofs.Common.{◌≡◌, ℕ, ◌+◌, ◌*◌, ◌≤◌, ◌<◌, IsTrue, List, filter, length, sym, ap, ◌∙◌, inl, inr, arith}
-use Rattle.sha1.specs.Sha1.{sha1}
+use Rattle.std.proofs.Common.{◌≡◌, ℕ, ◌+◌, ◌*◌, ◌≤◌, ◌<◌, IsTrue, List, length, sym, ap, ◌∙◌, inl, inr, arith}
 use Rattle.silt_disk.specs.Disk.{LiesOutside, Torn, size}
 use Rattle.silt_disk.specs.Layout.{Shape, device_size, commits_at, hash_at, log_len, row_len, slots_len}
 use Rattle.silt_disk.proofs.Images.{torn_slice_after, torn_slice_before}
 use Rattle.silt_disk.proofs.Regions.{regions_apart}
-use Rattle.silt_hash_store.specs.Findings.{hash_findings}
-use Rattle.silt_frame.specs.Rows.{put_count, has_known_kind, row_of, rows_bytes, StoredRow}
-use Rattle.silt_hash_store.specs.Slots.{hash_rows, rows_before, hash_slot_at, slot_row, tag_of}
+use Rattle.silt_frame.specs.Rows.{row_of}
+use Rattle.silt_hash_store.specs.Slots.{hash_rows, rows_before, hash_slot_at, slot_row}
 use Rattle.silt_log.proofs.Bodies.{map_range_same}
 use Rattle.silt_hash_store.specs.Laws.{HashElsewhereLaw}
 use Rattle.silt_hash_store.proofs.Reading.{slot_inside}
@@ -15,15 +13,11 @@ use Rattle.silt_hash_store.proofs.Slotting.{all_before}
 
 -- the slots of a hash region lie within the device
 pub slots_inside : (s : Shape) (region : ℕ) → region < s.hashes → hash_at s region + 4 * s.buckets * row_len s ≤ device_size s
-slots_inside s region there =
-    let apart = regions_apart s in
-    omega (arith, apart.hashes region s.hashes there, apart.hash_end 2, apart.device)
+slots_inside s region there = grind (arith, regions_apart)
 
 -- and after every log
 pub behind_logs : (s : Shape) (log_region region slot : ℕ) → log_region < s.logs → LiesOutside (commits_at s log_region) (log_len s) (hash_slot_at s region slot) (row_len s)
-behind_logs s log_region region slot there =
-    let apart = regions_apart s in
-    inr (omega (arith, apart.bodies log_region s.logs there, apart.logs region))
+behind_logs s log_region region slot there = grind (arith, regions_apart)
 
 -- a change outside the slots leaves each row
 pub slot_outside : (s : Shape) (region slot at count : ℕ) (old new : List ℕ) → hash_at s region + 4 * s.buckets * row_len s ≤ length old
@@ -55,17 +49,14 @@ hash_elsewhere store old new at count held fits outside changes is =
     let inside : hash_at store.shape store.region + 4 * store.shape.buckets * row_len store.shape ≤ size old = omega (arith, slots_inside store.shape store.region held.there, fits) in record {
       sound = λ honest.
           let was : IsTrue old.honest = sym changes.honest ∙ honest in
-          ap (λ (rows : List StoredRow). hash_findings store.shape (record { region = store.region; rows = rows }))
-          (rows_same store.shape store.region at count old.shown new.shown inside outside (changes.shown was))
-          ∙ is.sound was;
+          cc (rows_same store.shape store.region at count old.shown new.shown inside outside (changes.shown was), is.sound was);
       tagged = λ honest slot below.
           let was : IsTrue old.honest = sym changes.honest ∙ honest in
-          is.tagged was slot below ∙ ap (tag_of store.shape.buckets slot) (sym (slot_outside store.shape store.region slot at count old.shown new.shown inside below outside (changes.shown was)));
+          cc (is.tagged was slot below, slot_outside store.shape store.region slot at count old.shown new.shown inside below outside (changes.shown was));
       counted = λ honest.
           let was : IsTrue old.honest = sym changes.honest ∙ honest in
-          is.counted was ∙ ap (λ (rows : List StoredRow). put_count (filter has_known_kind rows))
-          (sym (rows_same store.shape store.region at count old.shown new.shown inside outside (changes.shown was)));
+          cc (is.counted was, rows_same store.shape store.region at count old.shown new.shown inside outside (changes.shown was));
       digested = λ honest.
           let was : IsTrue old.honest = sym changes.honest ∙ honest in
-          is.digested was ∙ ap (λ (rows : List StoredRow). sha1 (rows_bytes rows)) (sym (rows_same store.shape store.region at count old.shown new.shown inside outside (changes.shown was)));
+          cc (is.digested was, rows_same store.shape store.region at count old.shown new.shown inside outside (changes.shown was));
     }

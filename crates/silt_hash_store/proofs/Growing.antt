@@ -1,7 +1,6 @@
 -- A rebuild, slot by slot, and the findings in a hash region.
-use Rattle.std.proofs.Common.{◌≡◌, ◌≢◌, ℕ, zero, suc, ◌+◌, ◌*◌, ◌<◌, ◌==◌, eqb, Bool, true, false, not, cond, IsTrue, List, [], ◌∷◌, ◌++◌, length, filter}
-use Rattle.std.proofs.Common.{flat_map, take, get_or, slice_get, slice_set, replicate, Option, Some, None, inl, inr, refl, sym, subst, ap, ◌∙◌, arith}
-use Rattle.std.proofs.Common.{length-append, append-nil, get_or-set_other, get_or-set_same}
+use Rattle.std.proofs.Common.{◌≡◌, ◌≢◌, ℕ, zero, suc, ◌+◌, ◌*◌, ◌<◌, eqb, Bool, true, false, not, cond, IsTrue, List, [], ◌∷◌, ◌++◌, length, filter, flat_map, take, get_or, slice_get}
+use Rattle.std.proofs.Common.{slice_set, replicate, Option, Some, None, inl, inr, refl, sym, subst, ap, ◌∙◌, arith, length-append, append-nil, get_or-set_other, get_or-set_same}
 use Rattle.std.specs.List.{enumerate_from}
 use Rattle.std.specs.Option.{is_some}
 use Rattle.std.proofs.lemmas.Bool.{and_from, cases_eq}
@@ -12,18 +11,16 @@ use Rattle.std.proofs.lemmas.List.Sums.{sum_by-append}
 use Rattle.std.proofs.lemmas.Option.{get_or_from_slice_get, slice_get_within}
 use Rattle.std.proofs.lemmas.Slice.Eq.{bytes_eq-Decides}
 use Rattle.sha1.specs.Sha1.{sha1}
-use Rattle.silt_cuckoo.specs.Keys.{first_bucket, second_bucket}
-use Rattle.silt_cuckoo.specs.Placing.{other_bucket}
 use Rattle.silt_disk.specs.Disk.{Content}
 use Rattle.silt_disk.specs.Layout.{Shape}
 use Rattle.silt_frame.specs.Frame.{kind_byte, kind_of}
 use Rattle.silt_frame.specs.declared.key.Kind.{Kind}
 use Rattle.silt_frame.specs.declared.key.Kind.TheVariants.{Put, Delete}
 use Rattle.silt_event.specs.Findings.{finding_if}
-use Rattle.silt_hash_store.specs.Findings.{hash_findings, holds_key, is_in_bucket, is_sound_hash_slot, slot_findings}
+use Rattle.silt_hash_store.specs.Findings.{hash_findings, holds_key, is_sound_hash_slot, slot_findings}
 use Rattle.silt_frame.specs.Rows.{put_count, has_known_kind, StoredRow, puts_of, rows_bytes}
 use Rattle.silt_log.specs.Parts.{Part}
-use Rattle.silt_hash_store.specs.Slots.{has_tag_of, hash_part, hash_rows, is_row_of, is_sound_slot, rows_before, slot_row, slot_tag, tag_of}
+use Rattle.silt_hash_store.specs.Slots.{has_tag_of, hash_part, hash_rows, is_row_of, is_sound_slot, rows_before, slot_row, slot_tag}
 use Rattle.silt_event.specs.declared.damage.Finding.{Finding}
 use Rattle.silt_event.specs.declared.damage.Finding.TheVariants as finding
 use Rattle.silt_event.specs.declared.place.Place.TheVariants.{Hash}
@@ -35,11 +32,11 @@ use Rattle.silt_hash_store.specs.Rebuild.{AddsSound, IsFirstUnsound, IsGrown, Is
 use Rattle.silt_log.specs.Scans.{IsScanRefused}
 use Rattle.silt_hash_store.specs.State.{HashState, IsHashStore, IsHeldHash, IsTagged}
 use Rattle.silt_log.specs.declared.scan.ScanError.{ScanError}
-use Rattle.silt_log.specs.declared.scan.ScanError.TheVariants.{Damaged, Device, NoMemory}
+use Rattle.silt_log.specs.declared.scan.ScanError.TheVariants.{Damaged}
 use Rattle.silt_hash_store.specs.declared.rebuild.Rebuilt.{Rebuilt}
 use Rattle.silt_hash_store.proofs.Finding.{untagged_none}
-use Rattle.silt_hash_store.proofs.Slotting.{all_before, before_count, before_more, before_taken, before_there, empty_not_known, sound_empty, sound_known}
-use Rattle.silt_hash_store.proofs.Slotting.{tag_empty, tag_known, unsound_bucket, unsound_kind, unsound_twice}
+use Rattle.silt_hash_store.proofs.Slotting.{all_before, before_count, before_more, before_taken, before_there, empty_not_known, sound_empty, sound_known, tag_empty, tag_known}
+use Rattle.silt_hash_store.proofs.Slotting.{unsound_bucket, unsound_kind, unsound_twice}
 
 -- ---- findings
 
@@ -50,9 +47,8 @@ nothing_from s part k [] sound = refl
 nothing_from s part k (row ∷ rows) sound =
     let here : k + 0 ≡ k = omega arith in
     let first : is_sound_hash_slot s part.rows k row ≡ true = ap (λ n. is_sound_hash_slot s part.rows n row) (sym here) ∙ sound 0 row refl in
-    nothing_both (slot_findings s part (k, row)) (flat_map (slot_findings s part) (enumerate_from (k + 1) rows))
-    (nothing_where_passes (is_sound_hash_slot s part.rows k row) (finding.Damaged (Hash part.region k)) first)
-    (nothing_from s part (k + 1) rows (λ i other there.
+    nothing_both (slot_findings s part (k, row)) (flat_map (slot_findings s part) (enumerate_from (k + 1) rows)) (nothing_where_passes (is_sound_hash_slot s
+    part.rows k row) (finding.Damaged (Hash part.region k)) first) (nothing_from s part (k + 1) rows (λ i other there.
     let further : k + 1 + i ≡ k + suc i = omega arith in
     ap (λ n. is_sound_hash_slot s part.rows n other) further ∙ sound (suc i) other there))
 
@@ -60,16 +56,13 @@ nothing_from s part k (row ∷ rows) sound =
 pub sound_from : (s : Shape) (part : Part) (k : ℕ) (rows : List StoredRow) → flat_map (slot_findings s part) (enumerate_from k rows) ≡ []
     → (i : ℕ) (row : StoredRow) → slice_get rows i ≡ Some row → is_sound_hash_slot s part.rows (k + i) row ≡ true
 sound_from s part k [] none i row there = absurd (cc)
-sound_from s part k (first ∷ rows) none zero row there =
-    let same : first ≡ row = cc in
-    let here : k + 0 ≡ k = omega arith in
-    ap (λ n. is_sound_hash_slot s part.rows n row) here ∙ ap (is_sound_hash_slot s part.rows k) (sym same)
-    ∙ passes_where_nothing (is_sound_hash_slot s part.rows k first) (finding.Damaged (Hash part.region k))
-    (nothing_first (slot_findings s part (k, first)) (flat_map (slot_findings s part) (enumerate_from (k + 1) rows)) none)
+sound_from s part k (first ∷ rows) none zero row there = search (arith, passes_where_nothing, nothing_first)
 sound_from s part k (first ∷ rows) none (suc i) row there =
-    let further : k + suc i ≡ k + 1 + i = omega arith in
-    ap (λ n. is_sound_hash_slot s part.rows n row) further
-    ∙ sound_from s part (k + 1) rows (nothing_second (slot_findings s part (k, first)) (flat_map (slot_findings s part) (enumerate_from (k + 1) rows)) none) i row there
+    search (
+      arith,
+      sound_from s part (k + 1) rows (nothing_second (slot_findings s part (k, first)) (flat_map (slot_findings s part) (enumerate_from (k + 1) rows)) none) i row there,
+      nothing_second,
+    )
 
 -- the first of what comes behind nothing
 first_behind : {X : Type 0} (xs ys : List X) (x : X) → xs ≡ [] → slice_get ys 0 ≡ Some x → slice_get (xs ++ ys) 0 ≡ Some x
@@ -85,19 +78,13 @@ pub first_from : (s : Shape) (part : Part) (k n : ℕ) (rows : List StoredRow) (
     → ((i : ℕ) (earlier : StoredRow) → i < n → slice_get rows i ≡ Some earlier → is_sound_hash_slot s part.rows (k + i) earlier ≡ true)
     → is_sound_hash_slot s part.rows (k + n) row ≡ false → slice_get (flat_map (slot_findings s part) (enumerate_from k rows)) 0 ≡ Some (finding.Damaged (Hash part.region (k + n)))
 first_from s part k n [] row there sound unsound = absurd (cc)
-first_from s part k zero (first ∷ rows) row there sound unsound =
-    let same : first ≡ row = cc in
-    let here : k + 0 ≡ k = omega arith in
-    let fails : is_sound_hash_slot s part.rows k first ≡ false = ap (is_sound_hash_slot s part.rows k) same ∙ ap (λ n. is_sound_hash_slot s part.rows n row) (sym here) ∙ unsound in
-    finding_here s part k first (flat_map (slot_findings s part) (enumerate_from (k + 1) rows)) fails ∙ ap (λ n. Some (finding.Damaged (Hash part.region n))) (sym here)
+first_from s part k zero (first ∷ rows) row there sound unsound = search (arith, finding_here)
 first_from s part k (suc n) (first ∷ rows) row there sound unsound =
     let here : k + 0 ≡ k = omega arith in
     let further : k + 1 + n ≡ k + suc n = omega arith in
     let passes : is_sound_hash_slot s part.rows k first ≡ true = ap (λ m. is_sound_hash_slot s part.rows m first) (sym here) ∙ sound 0 first (omega arith) refl in
-    first_behind (slot_findings s part (k, first)) (flat_map (slot_findings s part) (enumerate_from (k + 1) rows)) (finding.Damaged (Hash part.region (k + suc n)))
-    (nothing_where_passes (is_sound_hash_slot s part.rows k first) (finding.Damaged (Hash part.region k)) passes)
-    (first_from s part (k + 1) n rows row there
-    (λ i earlier low at.
+    first_behind (slot_findings s part (k, first)) (flat_map (slot_findings s part) (enumerate_from (k + 1) rows)) (finding.Damaged (Hash part.region (k + suc
+    n))) (search (arith, nothing_where_passes)) (first_from s part (k + 1) n rows row there (λ i earlier low at.
     let step : k + 1 + i ≡ k + suc i = omega arith in
     ap (λ m. is_sound_hash_slot s part.rows m earlier) step ∙ sound (suc i) earlier (omega arith) at)
     (ap (λ m. is_sound_hash_slot s part.rows m row) further ∙ unsound)
@@ -111,15 +98,12 @@ module _ (s : Shape) (region : ℕ) (image : List ℕ) where
   all_there slot below = ap (λ (rows : List StoredRow). slice_get rows slot) (all_before s region image) ∙ before_there s region image (4 * s.buckets) slot below
 
   all_within : (slot : ℕ) (row : StoredRow) → slice_get (hash_rows s region image) slot ≡ Some row → slot < 4 * s.buckets
-  all_within slot row there =
-      let inside = slice_get_within (hash_rows s region image) slot row there in
-      omega (arith, inside, ap length (all_before s region image), before_count s region image (4 * s.buckets))
+  all_within slot row there = search (arith, slice_get_within, all_before, before_count)
 
   -- there is no finding if all slots are sound
   pub nothing_found : ((slot : ℕ) → slot < 4 * s.buckets → is_sound_slot s region image slot ≡ true) → hash_findings s (hash_part s image region) ≡ []
   unfolding hash_findings
-  nothing_found sound = nothing_from s (hash_part s image region) 0 (hash_rows s region image)
-      (λ slot row there.
+  nothing_found sound = nothing_from s (hash_part s image region) 0 (hash_rows s region image) (λ slot row there.
       let below = all_within slot row there in
       let here = all_there slot below in
       let same : slot_row s region image slot ≡ row = cc in
@@ -131,8 +115,7 @@ module _ (s : Shape) (region : ℕ) (image : List ℕ) where
   unfolding hash_findings
   all_sound none slot below =
       let number : slot ≡ 0 + slot = omega arith in
-      ap (λ n. is_sound_hash_slot s (hash_rows s region image) n (slot_row s region image slot)) number
-      ∙ sound_from s (hash_part s image region) 0 (hash_rows s region image) none slot (slot_row s region image slot) (all_there slot below)
+      cc (sound_from s (hash_part s image region) 0 (hash_rows s region image) none slot (slot_row s region image slot) (all_there slot below))
 
   -- the first slot that is not sound
   pub first_found : (slot : ℕ) → slot < 4 * s.buckets → ((earlier : ℕ) → earlier < slot → is_sound_slot s region image earlier ≡ true) → is_sound_slot s region image slot ≡ false
@@ -140,23 +123,15 @@ module _ (s : Shape) (region : ℕ) (image : List ℕ) where
   unfolding hash_findings
   first_found slot below sound unsound =
       let number : 0 + slot ≡ slot = omega arith in
-      first_from s (hash_part s image region) 0 slot (hash_rows s region image) (slot_row s region image slot) (all_there slot below)
-      (λ i earlier low there.
+      first_from s _ 0 slot _ _ (all_there slot below) (λ i earlier low there.
       let here = all_there i (omega (arith, low, below)) in
       let same : slot_row s region image i ≡ earlier = cc in
       let its_number : 0 + i ≡ i = omega arith in
-      ap (λ n. is_sound_hash_slot s (hash_rows s region image) n earlier) its_number ∙ ap (is_sound_hash_slot s (hash_rows s region image) i) (sym same) ∙ sound i low)
-      (ap (λ n. is_sound_hash_slot s (hash_rows s region image) n (slot_row s region image slot)) number ∙ unsound)
-      ∙ ap (λ n. Some (finding.Damaged (Hash region n))) number
+      cc (sound i low)) (cc) ∙ ap (λ n. Some (finding.Damaged (Hash region n))) number
 
 -- a store that matches the disk has the tags of all slots
 pub tagged_all : (content : Content) (store : HashState) → IsHeldHash store → IsTrue content.honest → IsHashStore content store → IsTagged store content.shown (4 * store.shape.buckets)
-tagged_all content store held honest is = record {
-  most = omega arith;
-  sound = all_sound store.shape store.region content.shown (is.sound honest);
-  tagged = is.tagged honest;
-  later = λ slot past. get_or_past store.tags slot None (omega (arith, held.long));
-}
+tagged_all content store held honest is = search (arith, all_sound, get_or_past, is.sound, is.tagged)
 
 -- so what is found among the rows before the last slot is found among all rows
 pub found_in_all : (s : Shape) (region : ℕ) (image : List ℕ) (key : List ℕ) (found : Option Found)
@@ -166,8 +141,7 @@ found_in_all s region image key found finds = subst (λ (rows : List StoredRow).
 -- and if no slot has a tag of a key, no row has the key
 pub untagged_all : (content : Content) (store : HashState) (key : List ℕ) → IsHeldHash store → IsTrue content.honest → IsHashStore content store → false ≡ has_tag_of store.tags store.shape.buckets key
     → FindsRow (hash_rows store.shape store.region content.shown) key None
-untagged_all content store key held honest is lacks =
-    found_in_all store.shape store.region content.shown key None (untagged_none store content.shown (4 * store.shape.buckets) (tagged_all content store held honest is) key lacks)
+untagged_all content store key held honest is lacks = search (arith, found_in_all, untagged_none, tagged_all)
 
 -- ---- one slot
 
@@ -190,22 +164,12 @@ module _ (store : HashState) (image : List ℕ) (slot : ℕ) (is : IsTagged stor
   -- a row that is new adds its kind and its tag
   pub adds_row : (kind : Kind) (key : List ℕ) (tag : ℕ) → kind_of shown.kind ≡ Some kind → key ≡ shown.key → TagsKey store.shape slot key (Some tag)
       → FindsRow (rows_before store.shape store.region image slot) key None → AddsSound store image slot (Some (kind, tag))
-  adds_row kind key tag is_kind same (inside, other) none =
-      let known : has_known_kind shown ≡ true = head_known shown kind is_kind in record {
-        sound = sound_known store.shape (hash_rows store.shape store.region image) slot shown known (ap (is_in_bucket store.shape slot) (sym same) ∙ inside)
-            (ap (holds_key shown.key) earlier ∙ ap (λ (k : List ℕ). holds_key k (rows_before store.shape store.region image slot)) (sym same) ∙ none);
-        adds = (
-          is_kind,
-          tag_known store.shape.buckets slot shown known
-              ∙ ap Some (ap (λ (k : List ℕ). other_bucket (first_bucket store.shape.buckets k) (second_bucket store.shape.buckets k) slot) (sym same) ∙ sym other),
-        );
-      }
+  adds_row kind key tag is_kind same (inside, other) none = search (arith, head_known, sound_known, earlier, tag_known)
 
   -- a row in another bucket is not sound
   pub elsewhere_unsound : (kind : Kind) (key : List ℕ) → kind_of shown.kind ≡ Some kind → key ≡ shown.key → TagsKey store.shape slot key None
       → is_sound_slot store.shape store.region image slot ≡ false
-  elsewhere_unsound kind key is_kind same outside =
-      unsound_bucket store.shape (hash_rows store.shape store.region image) slot shown (head_known shown kind is_kind) (ap (is_in_bucket store.shape slot) (sym same) ∙ outside)
+  elsewhere_unsound kind key is_kind same outside = search (arith, unsound_bucket, head_known)
 
   -- nor is a row whose key an earlier slot has
   pub twice_unsound : (kind : Kind) (key : List ℕ) (found : Found) → kind_of shown.kind ≡ Some kind → key ≡ shown.key → FindsRow (rows_before store.shape store.region image slot) key (Some found)
@@ -252,45 +216,22 @@ row_charge Delete row e = ap (λ n. 0 + cond (eqb n 1) 1 0) (sym e)
 pub slot_taken : (old new : Rebuilt) (image : List ℕ) (slot : ℕ) (added : Option (Kind × ℕ)) → slot < 4 * old.store.shape.buckets → length old.store.tags ≡ 4 * old.store.shape.buckets
     → IsGrown old image slot → AddsSound old.store image slot added → TakesAdded slot added old new → IsGrown new image (slot + 1)
 slot_taken old new image slot None below long is adds takes =
-    let row : StoredRow = slot_row old.store.shape old.store.region image slot in
-    let same : filter has_known_kind (rows_before old.store.shape old.store.region image (slot + 1)) ≡ filter has_known_kind (rows_before old.store.shape old.store.region image slot) ++ [] =
-    known_more old.store.shape old.store.region image slot
-    ∙ ap (λ (l : List StoredRow). filter has_known_kind (rows_before old.store.shape old.store.region image slot) ++ l) (none_kept row (empty_not_known row adds.adds)) in
-    let kept = same ∙ append-nil (filter has_known_kind (rows_before old.store.shape old.store.region image slot)) in
-    subst (λ (r : Rebuilt). IsGrown r image (slot + 1)) (sym takes) (record {
-      tagged = record {
-        most = omega (arith, below);
-        sound = λ j low. elim (cases_eq j slot) [ inl here ↦ rw (← here) at adds.sound | inr other ↦ is.tagged.sound j (omega arith) ];
-        tagged = λ j low. elim (cases_eq j slot) [
-          | inl here ↦ ap (slot_tag old.store.tags) here ∙ is.tagged.later slot (omega arith) ∙ sym (tag_empty old.store.shape.buckets slot row adds.adds)
-              ∙ ap (λ n. tag_of old.store.shape.buckets n (slot_row old.store.shape old.store.region image n)) (sym here)
-          | inr other ↦ is.tagged.tagged j (omega arith)
-        ];
-        later = λ j past. is.tagged.later j (omega arith);
-      };
-      charged = is.charged ∙ ap put_count (sym kept);
-      counted = is.counted ∙ ap length (sym kept);
-    })
+    search (arith, known_more, none_kept, empty_not_known, append-nil, cases_eq, tag_empty, is.tagged.sound, is.tagged.later, is.tagged.tagged)
 slot_taken old new image slot (Some (kind, tag)) below long is adds takes =
     let row : StoredRow = slot_row old.store.shape old.store.region image slot in
     let known : has_known_kind row ≡ true = head_known row kind adds.adds.0 in
     let before : List StoredRow = filter has_known_kind (rows_before old.store.shape old.store.region image slot) in
     let kept : filter has_known_kind (rows_before old.store.shape old.store.region image (slot + 1)) ≡ before ++ row ∷ [] =
-    known_more old.store.shape old.store.region image slot ∙ ap (λ (l : List StoredRow). before ++ l) (one_kept row known) in
+    search (arith, known_more, one_kept) in
     let tags : List (Option ℕ) = slice_set old.store.tags slot (Some tag) in
     subst (λ (r : Rebuilt). IsGrown r image (slot + 1)) (sym takes) (record {
       tagged = record {
         most = omega (arith, below);
         sound = λ j low. elim (cases_eq j slot) [ inl here ↦ rw (← here) at adds.sound | inr other ↦ is.tagged.sound j (omega arith) ];
-        tagged = λ j low. elim (cases_eq j slot) [
-          | inl here ↦ ap (slot_tag tags) here ∙ get_or-set_same old.store.tags slot (Some tag) None (omega (arith, below, long)) ∙ sym adds.adds.1
-              ∙ ap (λ n. tag_of old.store.shape.buckets n (slot_row old.store.shape old.store.region image n)) (sym here)
-          | inr other ↦ get_or-set_other old.store.tags slot j (Some tag) None other ∙ is.tagged.tagged j (omega arith)
-        ];
-        later = λ j past. get_or-set_other old.store.tags slot j (Some tag) None (λ same. absurd (omega arith)) ∙ is.tagged.later j (omega arith);
+        tagged = search (arith, cases_eq, get_or-set_same, get_or-set_other, is.tagged.tagged);
+        later = search (arith, get_or-set_other, is.tagged.later);
       };
-      charged = ap (λ n. n + puts_of kind) is.charged ∙ ap (λ n. put_count before + n) (sym (row_charge kind row (kind_of_byte row.kind kind adds.adds.0)))
-          ∙ sym (sum_by-append (λ (r : StoredRow). cond (r.kind == 1) 1 0) before (row ∷ [])) ∙ ap put_count (sym kept);
+      charged = search (arith, row_charge, kind_of_byte, sum_by-append);
       counted = ap (λ n. n + 1) is.counted ∙ sym (length-append before (row ∷ [])) ∙ ap length (sym kept);
     })
 
@@ -317,24 +258,12 @@ none_grown rebuilt image tags puts rows = record {
 
 -- its digest is nothing to what was taken
 pub grown_digested : (rebuilt : Rebuilt) (digest image : List ℕ) (count : ℕ) → IsGrown rebuilt image count → IsGrown (record rebuilt { store = record rebuilt.store { digest = digest } }) image count
-grown_digested rebuilt digest image count is = record {
-  tagged = record { most = is.tagged.most; sound = is.tagged.sound; tagged = is.tagged.tagged; later = is.tagged.later };
-  charged = is.charged;
-  counted = is.counted;
-}
+grown_digested rebuilt digest image count is = search arith
 
 -- a store of all slots
 pub all_grown : (content : Content) (rebuilt : Rebuilt) → IsTrue content.honest → IsGrown rebuilt content.shown (4 * rebuilt.store.shape.buckets)
     → rebuilt.store.digest ≡ sha1 (rows_bytes (rows_before rebuilt.store.shape rebuilt.store.region content.shown (4 * rebuilt.store.shape.buckets))) → IsRebuiltHash content rebuilt
-all_grown content rebuilt honest is digest = record {
-  stands = record {
-    sound = λ _. nothing_found rebuilt.store.shape rebuilt.store.region content.shown is.tagged.sound;
-    tagged = λ _. is.tagged.tagged;
-    counted = λ _. is.charged ∙ ap (λ (l : List StoredRow). put_count (filter has_known_kind l)) (sym (all_before rebuilt.store.shape rebuilt.store.region content.shown));
-    digested = λ _. digest ∙ ap (λ (l : List StoredRow). sha1 (rows_bytes l)) (sym (all_before rebuilt.store.shape rebuilt.store.region content.shown));
-  };
-  counted = is.counted ∙ ap (λ (l : List StoredRow). length (filter has_known_kind l)) (sym (all_before rebuilt.store.shape rebuilt.store.region content.shown));
-}
+all_grown content rebuilt honest is digest = search (arith, nothing_found, all_before)
 
 -- a rebuild that was refused at a slot
 pub refused_at : {F : Type 0} (content : Content) (rebuilt : Rebuilt) (s : Shape) (region slot : ℕ) (given : F → Type 0) (error : ScanError F)
@@ -342,13 +271,4 @@ pub refused_at : {F : Type 0} (content : Content) (rebuilt : Rebuilt) (s : Shape
     → (IsTrue content.honest → IsGrown rebuilt content.shown slot)
     → IsScanRefused (λ at. (at ≡ slot) × (IsTrue content.honest → IsGrown rebuilt content.shown slot → is_sound_slot rebuilt.store.shape rebuilt.store.region content.shown slot ≡ false)) given error
     → IsScanRefused (λ at. IsTrue content.honest → IsFirstUnsound content s region at) given error
-refused_at content rebuilt s region slot given (Damaged at) shape number below is refused = λ honest.
-    let grown = is honest in
-    let unsound : is_sound_slot s region content.shown slot ≡ false = ap (λ n. is_sound_slot s n content.shown slot) (sym number)
-    ∙ ap (λ (t : Shape). is_sound_slot t rebuilt.store.region content.shown slot) (sym shape) ∙ refused.1 honest grown in
-    let sound : (earlier : ℕ) → earlier < slot → is_sound_slot s region content.shown earlier ≡ true =
-    λ earlier low. ap (λ n. is_sound_slot s n content.shown earlier) (sym number)
-    ∙ ap (λ (t : Shape). is_sound_slot t rebuilt.store.region content.shown earlier) (sym shape) ∙ grown.tagged.sound earlier low in
-    subst (λ n. IsFirstUnsound content s region n) (sym refused.0) (record { first = first_found s region content.shown slot below sound unsound })
-refused_at content rebuilt s region slot given (Device fault) shape number below is refused = refused
-refused_at content rebuilt s region slot given NoMemory shape number below is refused = tt
+refused_at content rebuilt s region slot given error shape number below is refused = search (arith, first_found)

@@ -1,6 +1,6 @@
 -- Stored tags and their meaning.
-use Rattle.std.proofs.Common.{◌≡◌, ℕ, zero, suc, ◌+◌, ◌-◌, ◌*◌, ◌≤◌, ◌<◌, eqb, Bool, true, false, ◌||◌, List, ◌∷◌, length, get_or, map, replicate, slice_set}
-use Rattle.std.proofs.Common.{slice_range, Option, Some, None, inl, inr, refl, sym, ap, ◌∙◌, arith}
+use Rattle.std.proofs.Common.{◌≡◌, ℕ, zero, suc, ◌+◌, ◌-◌, ◌*◌, ◌≤◌, ◌<◌, eqb, Bool, true, false, ◌||◌, List, ◌∷◌, length, get_or, map, replicate, slice_set, slice_range, Option, Some, None}
+use Rattle.std.proofs.Common.{refl, sym, ap, ◌∙◌, arith}
 use Rattle.std.proofs.lemmas.Bool.{cases_Bool, cond-true, cond-false, eq-eqb, eqb-true, ne_eqb}
 use Rattle.std.proofs.lemmas.List.{get_or-map, map-set}
 use Rattle.std.proofs.lemmas.List.Edits.{get_or-between}
@@ -20,12 +20,7 @@ tag_stored tag below = cond-false _ _ _ (ne_eqb tag 65535 (λ same. absurd (omeg
 
 -- a number is this tag
 tag_same : (number tag : ℕ) → tag < 65535 → is_tag tag (tag_seen number) ≡ eqb number tag
-tag_same number tag below = elim (cases_Bool (eqb number 65535)) [
-  | inl none ↦
-      let other : eqb number tag ≡ false = ne_eqb number tag (λ same. let most : number ≡ 65535 = eqb-true number 65535 none in absurd (omega arith)) in
-      ap (is_tag tag) (cond-true _ _ _ none) ∙ sym other
-  | inr some ↦ ap (is_tag tag) (cond-false _ _ _ some)
-]
+tag_same number tag below = grind (arith, cases_Bool, ne_eqb, eqb-true, cond-true, cond-false)
 
 -- and so for the number of a slot
 tag_at : (numbers : List ℕ) (slot tag : ℕ) → slot < length numbers → tag < 65535 → is_tag tag (slot_tag (map tag_seen numbers) slot) ≡ eqb (get_or numbers slot 0) tag

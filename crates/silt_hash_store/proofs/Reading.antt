@@ -1,5 +1,5 @@
 -- What reads and writes of a slot give, and which slots a write leaves.
-use Rattle.std.proofs.Common.{◌≡◌, ◌≢◌, ℕ, ◌+◌, ◌*◌, ◌≤◌, ◌<◌, inl, inr, IsTrue, List, length, take, drop, get_or, slice_range, sym, subst, ap, ◌∙◌, arith}
+use Rattle.std.proofs.Common.{◌≡◌, ◌≢◌, ℕ, ◌+◌, ◌*◌, ◌≤◌, ◌<◌, inl, inr, IsTrue, List, length, take, drop, get_or, slice_range, sym, ap, ◌∙◌, arith}
 use Rattle.std.proofs.lemmas.Bool.{cases_lt}
 use Rattle.std.proofs.lemmas.List.Edits.{get_or-between}
 use Rattle.std.proofs.Math.Nat.{add-mul, mul-le-mul_right}
@@ -25,11 +25,7 @@ head_read s region slot at image head said same fits read says =
     let body : List ℕ = slice_range image at (at + len) in
     let long : 21 ≤ len = omega arith in
     let front : head ≡ slice_range body 0 21 = read ∙ ap (λ n. slice_range image n (n + 21)) (omega arith) ∙ slice_of_slice image at len 0 21 long fits in
-    let byte : get_or head 0 0 ≡ get_or body 0 0 = ap (λ (l : List ℕ). get_or l 0 0) front ∙ get_or-between body 0 21 0 0 (omega arith) in
-    let bytes : drop 1 head ≡ slice_range body 1 21 = ap (λ (l : List ℕ). drop 1 l) front ∙ drop_front body 1 20 in
-    let first : HeadSays (get_or body 0 0) (drop 1 head) said = subst (λ (n : ℕ). HeadSays n (drop 1 head) said) byte says in
-    let both : HeadSays (get_or body 0 0) (slice_range body 1 21) said = subst (λ (l : List ℕ). HeadSays (get_or body 0 0) l said) bytes first in
-    subst (λ (n : ℕ). HeadSays (row_of (slice_range image n (n + len))).kind (row_of (slice_range image n (n + len))).key said) same both
+    search (arith, get_or-between, drop_front)
 
 -- the head of a front that was read is that of the row in the slot
 pub front_read : (s : Shape) (region slot at count : ℕ) (image bytes head : List ℕ) (said : Head) → at ≡ hash_slot_at s region slot → at + row_len s ≤ length image → 21 ≤ count → count ≤ row_len s
@@ -44,45 +40,32 @@ front_read s region slot at count image bytes head said same fits least most rea
 pub front_value : (s : Shape) (region slot at count : ℕ) (image bytes : List ℕ) → at ≡ hash_slot_at s region slot → count ≡ row_len s
     → bytes ≡ slice_range image at (at + count) → drop 21 bytes ≡ (slot_row s region image slot).value
 unfolding slot_row
-front_value s region slot at count image bytes same whole read =
-    ap (drop 21) read ∙ ap (λ n. drop 21 (slice_range image at (at + n))) whole ∙ ap (λ n. drop 21 (slice_range image n (n + row_len s))) same
+front_value s region slot at count image bytes same whole read = cc
 
 -- a value that was read is that of the row in the slot
 pub value_read : (s : Shape) (region slot at count : ℕ) (image bytes : List ℕ) → at ≡ hash_slot_at s region slot → at + row_len s ≤ length image → count ≡ s.value_len
     → bytes ≡ slice_range image (at + 21) (at + 21 + count) → bytes ≡ (slot_row s region image slot).value
 unfolding slot_row
-value_read s region slot at count image bytes here fits long read =
-    read ∙ slice_to_end image at (row_len s) 21 count (omega arith) fits ∙ ap (λ n. drop 21 (slice_range image n (n + row_len s))) here
+value_read s region slot at count image bytes here fits long read = grind (arith, slice_to_end)
 
 -- slots that are read together lie within the device
 pub slots_within : (s : Shape) (region slot count at n end : ℕ) → hash_at s region + 4 * s.buckets * row_len s ≤ end
     → slot + count ≤ 4 * s.buckets → at ≡ hash_slot_at s region slot → n ≡ count * row_len s → at + n ≤ end
 slots_within s region slot count at n end fits within here long =
-    let most : (slot + count) * row_len s ≤ 4 * s.buckets * row_len s = mul-le-mul_right (row_len s) within in
-    omega (arith, fits, most, add-mul slot count (row_len s), here, long)
+    omega (arith, fits, mul-le-mul_right (row_len s) within, add-mul slot count (row_len s), here, long)
 
 -- and hold their rows
 pub slots_read : (s : Shape) (region slot count at n : ℕ) (image bytes : List ℕ) → at ≡ hash_slot_at s region slot → n ≡ count * row_len s
     → at + n ≤ length image → bytes ≡ slice_range image at (at + n) → HoldsSlots s region image slot count bytes
 unfolding slot_row
-slots_read s region slot count at n image bytes here long fits read = λ i below.
-    let len : ℕ = row_len s in
-    let inside = body_before 0 len i count below in
-    let there : at + i * len ≡ hash_slot_at s region (slot + i) = omega (arith, here, add-mul slot i len) in
-    let part : slice_range image (at + i * len) (at + i * len + len) ≡ slice_range bytes (i * len) (i * len + len) =
-    slice_of_slice image at n (i * len) len (omega (arith, inside, long)) fits ∙ ap (λ b. slice_range b (i * len) (i * len + len)) (sym read) in
-    ap (λ k. row_of (slice_range image k (k + len))) (sym there) ∙ ap row_of part
+slots_read s region slot count at n image bytes here long fits read = grind (arith, body_before, slice_of_slice)
 
 -- a slot that was written shows the row of its bytes
 pub slot_written : (s : Shape) (region slot at : ℕ) (bytes : List ℕ) (old new : Content) → at ≡ hash_slot_at s region slot
     → length bytes ≡ row_len s → at + row_len s ≤ size old → Writes at bytes old new
     → IsTrue old.honest → slot_row s region new.shown slot ≡ row_of bytes
 unfolding slot_row
-slot_written s region slot at bytes old new same long fits writes honest =
-    ap (λ (n : ℕ). row_of (slice_range new.shown n (n + row_len s))) (sym same)
-    ∙ ap (λ (n : ℕ). row_of (slice_range new.shown at (at + n))) (sym long)
-    ∙ ap (λ (l : List ℕ). row_of (slice_range l at (at + length bytes))) (writes.shown honest)
-    ∙ ap row_of (splice_slice at bytes old.shown (omega (arith, long, fits)))
+slot_written s region slot at bytes old new same long fits writes honest = grind (arith, splice_slice, writes.shown)
 
 -- a write of a slot leaves the other slots
 pub slot_elsewhere : (s : Shape) (region slot other : ℕ) (old new : List ℕ) → hash_at s region + 4 * s.buckets * row_len s ≤ length old → slot < 4 * s.buckets → other < 4 * s.buckets → other ≢ slot

@@ -1,5 +1,5 @@
 -- When a slot is sound, and what its head means for that.
-use Rattle.std.proofs.Common.{◌≡◌, ◌≢◌, ℕ, ◌+◌, ◌*◌, ◌≤◌, ◌<◌, ◌==◌, eqb, Bool, true, false, ◌||◌, List, [], ◌∷◌, ◌++◌, length, take, get_or, slice_get, Some, None, inl, inr, refl, ap, ◌∙◌, arith}
+use Rattle.std.proofs.Common.{◌≡◌, ◌≢◌, ℕ, ◌+◌, ◌*◌, ◌≤◌, ◌<◌, ◌==◌, true, false, List, [], ◌∷◌, ◌++◌, length, take, get_or, slice_get, Some, None, refl, ap, ◌∙◌, arith}
 use Rattle.std.specs.Option.{is_some}
 use Rattle.std.specs.Str.{bytes_eq}
 use Rattle.std.proofs.lemmas.Bool.{cases_Bool, and_from, cond-true, cond-false, eq-eqb, eqb-true, ne_eqb}
@@ -50,12 +50,7 @@ before_more s region image n = map-range_with_len_more (slot_row s region image)
 
 -- a row of a known kind is not empty
 pub known_not_empty : (row : StoredRow) → has_known_kind row ≡ true → (row.kind == 0) ≡ false
-known_not_empty row known = elim (cases_Bool (eqb row.kind 0)) [
-  | inr other ↦ other
-  | inl empty ↦
-      let none : has_known_kind row ≡ false = ap (λ n. is_some (kind_of n)) (eqb-true row.kind 0 empty) in
-      absurd (cc)
-]
+known_not_empty row known = grind (arith, cases_Bool, eqb-true)
 
 -- an empty one is of no known kind
 pub empty_not_known : (row : StoredRow) → row.kind ≡ 0 → has_known_kind row ≡ false
@@ -80,11 +75,7 @@ tag_known buckets slot row known = cond-false _ _ _ (known_not_empty row known)
 module _ (s : Shape) (rows : List StoredRow) (slot : ℕ) (row : StoredRow) where
   -- an empty slot is sound
   pub sound_empty : row.kind ≡ 0 → is_sound_hash_slot s rows slot row ≡ true
-  sound_empty empty = go (row.kind == 0) _ (eq-eqb row.kind 0 empty)
-    where
-      go : (a b : Bool) → a ≡ true → (a || b) ≡ true
-      go true b e = refl
-      go false b e = absurd (cc)
+  sound_empty empty = grind (arith, eq-eqb)
 
   -- so is one with a row of a known kind in its key's buckets that no earlier slot has
   pub sound_known : has_known_kind row ≡ true → is_in_bucket s slot row.key ≡ true → holds_key row.key (take slot rows) ≡ false → is_sound_hash_slot s rows slot row ≡ true
@@ -92,27 +83,14 @@ module _ (s : Shape) (rows : List StoredRow) (slot : ℕ) (row : StoredRow) wher
 
   -- and no other
   pub unsound_kind : kind_of row.kind ≡ None → row.kind ≢ 0 → is_sound_hash_slot s rows slot row ≡ false
-  unsound_kind unknown some =
-      let not_empty : (row.kind == 0) ≡ false = ne_eqb row.kind 0 some in
-      let none : has_known_kind row ≡ false = ap is_some unknown in
-      rw (not_empty, none) refl
+  unsound_kind unknown some = grind (arith, ne_eqb)
 
   pub unsound_bucket : has_known_kind row ≡ true → is_in_bucket s slot row.key ≡ false → is_sound_hash_slot s rows slot row ≡ false
   unsound_bucket known outside = rw (known_not_empty row known, known, outside) refl
 
   pub unsound_twice : has_known_kind row ≡ true → holds_key row.key (take slot rows) ≡ true → is_sound_hash_slot s rows slot row ≡ false
-  unsound_twice known held = go (is_in_bucket s slot row.key) refl
-    where
-      go : (b : Bool) → is_in_bucket s slot row.key ≡ b → is_sound_hash_slot s rows slot row ≡ false
-      go true inside = rw (known_not_empty row known, known, inside, held) refl
-      go false outside = unsound_bucket known outside
+  unsound_twice known held = grind (arith, known_not_empty, unsound_bucket)
 
   -- what a sound slot with a row of a known kind has
   pub sound_parts : has_known_kind row ≡ true → is_sound_hash_slot s rows slot row ≡ true → (is_in_bucket s slot row.key ≡ true) × (holds_key row.key (take slot rows) ≡ false)
-  sound_parts known sound = elim (cases_Bool (is_in_bucket s slot row.key)) [
-    | inl inside ↦ elim (cases_Bool (holds_key row.key (take slot rows))) [
-      | inl held ↦ let twice = unsound_twice known held in absurd (cc)
-      | inr alone ↦ (inside, alone)
-    ]
-    | inr outside ↦ let unsound = unsound_bucket known outside in absurd (cc)
-  ]
+  sound_parts known sound = grind (arith, cases_Bool, unsound_twice, unsound_bucket)
