@@ -1,5 +1,5 @@
 -- A walk over the keys of entries: the findings so far, and which keys the index has.
-use Rattle.std.proofs.Common.{◌≡◌, ℕ, ◌+◌, ◌-◌, ◌<◌, Bool, true, false, not, List, [], ◌∷◌, ◌++◌, length, take, slice_get, Option, Some, None, inl, inr, refl, sym, subst, ap, ◌∙◌, arith}
+use Rattle.std.proofs.Common.{◌≡◌, ℕ, ◌+◌, ◌-◌, ◌<◌, Bool, true, false, not, List, [], ◌∷◌, ◌++◌, length, take, slice_get, Option, Some, None, inl, inr, refl, ap, ◌∙◌, arith}
 use Rattle.std.proofs.lemmas.Bool.{cases_lt}
 use Rattle.std.proofs.lemmas.List.{length-map, take_all, take_more}
 use Rattle.silt_frame.specs.Rows.{StoredRow, keys_of}
@@ -7,8 +7,6 @@ use Rattle.silt_frame.specs.declared.key.Key.{Key}
 use Rattle.silt_sorted_store.specs.Findings.{entry_findings, is_key_below, sorted_findings}
 use Rattle.silt_event.specs.Findings.{finding_if}
 use Rattle.silt_event.specs.declared.damage.Finding.{Finding}
-use Rattle.silt_event.specs.declared.damage.Finding.TheVariants.{Damaged}
-use Rattle.silt_event.specs.declared.place.Place.TheVariants.{Sorted}
 use Rattle.silt_event.proofs.Findings.{nothing_where_passes}
 use Rattle.silt_sorted_store.specs.Rebuild.{IsFirstOutOfOrder}
 use Rattle.silt_sorted_store.specs.Indexing.{IsIndexing, IsKeyBefore}
@@ -29,8 +27,7 @@ module _ (rows : List StoredRow) (place : ℕ) where
 
   -- there is no finding at an entry whose key is greater than the last one
   fine_here : (last : Option Key) (key : List ℕ) → IsKeyBefore rows place last → 0 < place → key_at rows place ≡ key → is_above last key ≡ true → entry_findings rows place ≡ []
-  fine_here None key before least is above = absurd (omega (arith, before))
-  fine_here (Some last) key before least is above = nothing_where_passes _ (Damaged (Sorted place)) (last_decides last.0 key true before.1 is above)
+  fine_here last key before least is above = search (arith, nothing_where_passes, last_decides)
 
   -- the first entry whose key is not
   damaged_here : (last : Option Key) (key : List ℕ) → place < length rows → ((earlier : ℕ) → 0 < earlier → earlier < place → entry_findings rows earlier ≡ [])
@@ -39,34 +36,28 @@ module _ (rows : List StoredRow) (place : ℕ) where
   unfolding sorted_findings
   damaged_here None key inside fine before is fails = absurd (cc)
   damaged_here (Some last) key inside fine before is fails =
-      first_of_range (entry_findings rows) 1 (length rows - 1) place (Damaged (Sorted place)) (omega (arith, before.0)) (omega (arith, inside)) fine
-      (found_where_fails (is_key_below (key_at rows (place - 1)) (key_at rows place)) (Damaged (Sorted place)) (last_decides last.0 key false before.1 is fails))
+      first_of_range (entry_findings rows) 1 _ place _ (omega (arith, before.0)) (omega (arith, inside)) fine (search (arith, found_where_fails, last_decides))
 
 module _ (rows : List StoredRow) where
   -- no key was taken yet
   pub indexing_none : (builder : Building) → IsBuildingOf [] builder → builder.last ≡ None → IsIndexing rows 0 builder
-  indexing_none builder empty none = record {
-    built = empty;
-    last = subst (IsKeyBefore rows 0) (sym none) refl;
-    fine = λ earlier least below. absurd (omega arith);
-  }
+  indexing_none builder empty none = search arith
 
   -- one more key was taken
   pub indexing_more : (place : ℕ) (old new : Building) (key : Key) → place < length rows → IsIndexing rows place old → key_at rows place ≡ key.0 → is_above old.last key.0 ≡ true
       → ((keys : List (List ℕ)) → IsBuildingOf keys old → IsBuildingOf (keys ++ key.0 ∷ []) new) → new.last ≡ Some key → IsIndexing rows (place + 1) new
   indexing_more place old new key inside so_far is above builds last =
-      let long = length-map rows (λ (r : StoredRow). r.key) in
       let here : place + 1 - 1 ≡ place = omega arith in
       let keys : take (place + 1) (keys_of rows) ≡ take place (keys_of rows) ++ key.0 ∷ [] =
-      take_more (keys_of rows) place [] (omega (arith, long, inside)) ∙ ap (λ k. take place (keys_of rows) ++ k ∷ []) is in
+      cc (take_more (keys_of rows) place [] (omega (arith, length-map rows (λ (r : StoredRow). r.key), inside))) in
       record {
-        built = subst (λ l. IsBuildingOf l new) (sym keys) (builds (take place (keys_of rows)) so_far.built);
-        last = subst (IsKeyBefore rows (place + 1)) (sym last) (omega arith, ap (key_at rows) here ∙ is);
+        built = rw (← keys) at (builds (take place (keys_of rows)) so_far.built);
+        last = rw last (omega arith, ap (key_at rows) here ∙ is);
         fine = λ earlier least below. elim (cases_lt earlier place) [
           | inl lower ↦ so_far.fine earlier least lower
           | inr upto ↦
               let same : earlier ≡ place = omega arith in
-              ap (entry_findings rows) same ∙ fine_here rows place old.last key.0 so_far.last (omega arith) is above
+              cc (fine_here rows place old.last key.0 so_far.last (omega arith) is above)
         ];
       }
 
@@ -82,6 +73,4 @@ module _ (rows : List StoredRow) where
 
   -- and the builder has all keys
   pub indexing_all : (place : ℕ) (builder : Building) → length rows ≡ place → IsIndexing rows place builder → IsBuildingOf (keys_of rows) builder
-  indexing_all place builder long all =
-      let keys_long = length-map rows (λ (r : StoredRow). r.key) in
-      subst (λ l. IsBuildingOf l builder) (take_all place (keys_of rows) (omega (arith, keys_long, long))) all.built
+  indexing_all place builder long all = rw (take_all place (keys_of rows) (omega (arith, length-map rows (λ (r : StoredRow). r.key), long))) at all.built

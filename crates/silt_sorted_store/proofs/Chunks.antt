@@ -1,5 +1,5 @@
 -- The keys of entries that were read together.
-use Rattle.std.proofs.Common.{◌≡◌, ℕ, ◌+◌, ◌*◌, ◌<◌, ◌≤◌, List, ◌++◌, length, take, drop, slice_range, refl, sym, ap, ◌∙◌, arith, length-append}
+use Rattle.std.proofs.Common.{◌≡◌, ℕ, ◌+◌, ◌*◌, ◌<◌, ◌≤◌, List, ◌++◌, length, take, drop, slice_range, sym, ap, ◌∙◌, arith, length-append}
 use Rattle.std.proofs.lemmas.List.{take-append-drop}
 use Rattle.std.proofs.Math.Nat.{add-mul, mul-le-mul_right}
 use Rattle.silt_disk.specs.Layout.{Shape, device_size, entry_len}
@@ -26,10 +26,7 @@ pub keys_read : (shape : Shape) (region total : ℕ) (image : List ℕ) (place c
 keys_read shape region total image place count at n bytes within here long fits read = λ i below.
     let len : ℕ = entry_len shape in
     let inside = part_inside 0 len count i n (omega (arith, long)) below in
-    let there : at + i * len ≡ sorted_entry_at shape region (place + i) = omega (arith, here, add-mul place i len) in
-    let part : slice_range image (at + i * len) (at + i * len + 20) ≡ slice_range bytes (i * len) (i * len + 20) =
-    slice_of_slice image at n (i * len) 20 (omega (arith, inside)) fits ∙ ap (λ b. slice_range b (i * len) (i * len + 20)) (sym read) in
-    key_read shape region total image (place + i) (at + i * len) (slice_range bytes (i * len) (i * len + 20)) (omega (arith, within, below)) there (omega (arith, inside, fits)) (sym part)
+    search (arith, slice_of_slice, key_read)
 
 -- and the entries themselves
 pub entries_read : (shape : Shape) (region total : ℕ) (image : List ℕ) (place count at n : ℕ) (bytes : List ℕ) → place + count ≤ total
@@ -38,20 +35,15 @@ pub entries_read : (shape : Shape) (region total : ℕ) (image : List ℕ) (plac
 entries_read shape region total image place count at n bytes within here long fits read = λ i below.
     let len : ℕ = entry_len shape in
     let inside = part_inside 0 len count i n (omega (arith, long)) below in
-    let there : at + i * len ≡ sorted_entry_at shape region (place + i) = omega (arith, here, add-mul place i len) in
-    let part : slice_range image (at + i * len) (at + i * len + len) ≡ slice_range bytes (i * len) (i * len + len) =
-    slice_of_slice image at n (i * len) len (omega (arith, inside)) fits ∙ ap (λ b. slice_range b (i * len) (i * len + len)) (sym read) in
-    entry_read shape region total image (place + i) (at + i * len) len (slice_range bytes (i * len) (i * len + len)) (omega (arith, within, below)) there refl (sym part)
+    search (arith, slice_of_slice, entry_read)
 
 -- a buffer that has room for `most` of them has room for fewer
 pub chunk_fits : (shape : Shape) (next most len room : ℕ) → next ≤ most → len ≡ entry_len shape → most * entry_len shape ≤ room → next * len ≤ room
-chunk_fits shape next most len room fewer is fits =
-    let rise : next * len ≤ most * len = mul-le-mul_right len fewer in
-    omega (arith, rise, ap (λ (n : ℕ). most * n) is, fits)
+chunk_fits shape next most len room fewer is fits = omega (arith, mul-le-mul_right len fewer, ap (λ (n : ℕ). most * n) is, fits)
 
 -- what is read over the front of a buffer leaves its length
 pub written_back : (new old : List ℕ) (n : ℕ) → length new ≡ length (take n old) → length (new ++ drop n old) ≡ length old
-written_back new old n long = length-append new (drop n old) ∙ ap (λ k. k + length (drop n old)) long ∙ sym (length-append (take n old) (drop n old)) ∙ ap length (take-append-drop n old)
+written_back new old n long = cc (length-append new (drop n old), length-append (take n old) (drop n old), take-append-drop n old)
 
 -- the front of a part
 front_of_part : (bytes : List ℕ) (at len : ℕ) → 20 ≤ len → at + len ≤ length bytes → slice_range bytes at (at + 20) ≡ take 20 (slice_range bytes at (at + len))
@@ -63,6 +55,4 @@ front_of_part bytes at len least fits =
 pub key_in_part : (rows : List StoredRow) (first count len i : ℕ) (bytes key : List ℕ) → 20 ≤ len → length bytes ≡ count * len
     → i < count → HoldsKeys rows first count len bytes → key ≡ take 20 (slice_range bytes (i * len) (i * len + len))
     → key_at rows (first + i) ≡ key
-key_in_part rows first count len i bytes key least long below holds is =
-    let inside = part_inside 0 len count i (length bytes) (omega (arith, long)) below in
-    holds i below ∙ front_of_part bytes (i * len) len least (omega (arith, inside)) ∙ sym is
+key_in_part rows first count len i bytes key least long below holds is = search (arith, part_inside, front_of_part)

@@ -29,23 +29,15 @@ front_more bytes n len =
 module _ (rows : List StoredRow) (place count len : ℕ) (bytes : List ℕ) (holds : HoldsEntries rows place count len bytes) where
   -- the bytes of the rows up to one of those that some bytes hold
   bytes_upto : (n : ℕ) → n ≤ count → entries_bytes (take (place + n) rows) ≡ entries_bytes (take place rows) ++ take (n * len) bytes
-  bytes_upto zero most =
-      let none : place + 0 ≡ place = omega arith in
-      let nothing : zero * len ≡ 0 = omega arith in
-      ap (λ k. entries_bytes (take k rows)) none ∙ sym (append-nil (entries_bytes (take place rows))) ∙ ap (λ k. entries_bytes (take place rows) ++ take k bytes) (sym nothing)
+  bytes_upto zero most = search (arith, append-nil)
   bytes_upto (suc n) most =
       let part : List ℕ = slice_range bytes (n * len) (n * len + len) in
       let there = holds n (omega arith) in
       let next : place + suc n ≡ place + n + 1 = omega arith in
       let one : take (place + suc n) rows ≡ take (place + n) rows ++ entry_row part ∷ [] =
-      ap (λ k. take k rows) next
-      ∙ take_more rows (place + n) (entry_row part) (slice_get_within rows (place + n) (entry_row part) there)
-      ∙ ap (λ r. take (place + n) rows ++ r ∷ []) (get_or_from_slice_get rows (place + n) (entry_row part) (entry_row part) there) in
-      ap entries_bytes one
-      ∙ bytes_more (take (place + n) rows) part
-      ∙ ap (λ l. l ++ part) (bytes_upto n (omega arith))
-      ∙ append_assoc (entries_bytes (take place rows)) (take (n * len) bytes) part
-      ∙ ap (λ l. entries_bytes (take place rows) ++ l) (front_more bytes n len)
+      cc (take_more rows (place + n) (entry_row part) (slice_get_within rows (place + n) (entry_row part) there), get_or_from_slice_get rows (place + n) (entry_row part) (entry_row part) there)
+      in
+      cc (bytes_more (take (place + n) rows) part, bytes_upto n (omega arith), append_assoc (entries_bytes (take place rows)) (take (n * len) bytes) part, front_more bytes n len)
 
   -- those of the rows before a place and of the rows that these bytes hold are those before the place, and then these bytes
   pub bytes_of_chunk : length bytes ≡ count * len → entries_bytes (take (place + count) rows) ≡ entries_bytes (take place rows) ++ bytes
@@ -58,7 +50,6 @@ entries_bytes_law shape region count image fits =
     let n : ℕ = count * entry_len shape in
     let bytes : List ℕ = slice_range image at (at + n) in
     let rows : List StoredRow = sorted_rows shape region count image in
-    let rows_long = entry_count shape region count image in
-    let long : length bytes ≡ at + n - at = length-between image at (at + n) fits in
     let holds = entries_read shape region count image 0 count at n bytes (omega arith) (omega arith) refl fits refl in
-    ap entries_bytes (sym (take_all (0 + count) rows (omega (arith, rows_long)))) ∙ bytes_of_chunk rows 0 count (entry_len shape) bytes holds (omega (arith, long))
+    ap entries_bytes (sym (take_all (0 + count) rows (omega (arith, entry_count shape region count image)))) ∙ bytes_of_chunk rows 0 count _ bytes holds
+    (omega (arith, length-between image at (at + n) fits))

@@ -43,9 +43,8 @@ unfolding sorted_rows
 entries_before s region n old new fits most torn =
     map_range_same (λ (p : ℕ). entry_row (entry_bytes s region new p)) (λ (p : ℕ). entry_row (entry_bytes s region old p)) 0 n (λ place low high.
     let inside = part_inside (sorted_at s region) (entry_len s) s.sorted_capacity place (length old) fits (omega arith) in
-    let apart = next_region place n (entry_len s) (omega arith) in
     ap entry_row (torn_slice_before (sorted_entry_at s region n) (entry_len s) old new torn (sorted_entry_at s region place)
-    (sorted_entry_at s region place + entry_len s) (omega (arith, apart)) inside))
+    (sorted_entry_at s region place + entry_len s) (omega (arith, next_region place n (entry_len s) (omega arith))) inside))
 
 -- one entry more
 pub entry_more : (s : Shape) (region n : ℕ) (image : List ℕ) → sorted_rows s region (n + 1) image ≡ sorted_rows s region n image ++ entry_row (entry_bytes s region image n) ∷ []

@@ -43,18 +43,12 @@ module _ (shape : Shape) (region count : ℕ) (image : List ℕ) where
   unfolding sorted_rows
   entry_there place below =
       let row : ℕ → StoredRow = λ (p : ℕ). entry_row (entry_bytes_at p) in
-      let long = length-map-range_with_len row 0 count in
-      slice_get-get_or (sorted_rows shape region count image) place (row place) (omega (arith, long))
+      slice_get-get_or (sorted_rows shape region count image) place (row place) (omega (arith, length-map-range_with_len row 0 count))
       ∙ ap Some (get_or-map-range_with_len row 0 count place place (row place) below (omega arith))
 
   -- each is a put
   pub entry_put : (place : ℕ) (row : StoredRow) → slice_get (sorted_rows shape region count image) place ≡ Some row → row.kind ≡ 1
-  entry_put place row is =
-      let long = entry_count in
-      let inside = slice_get_within (sorted_rows shape region count image) place row is in
-      let same : Some row ≡ Some (entry_row (entry_bytes_at place)) = sym is ∙ entry_there place (omega arith) in
-      let one : row ≡ entry_row (entry_bytes_at place) = cc in
-      ap (λ (r : StoredRow). r.kind) one
+  entry_put place row is = search (arith, entry_count, slice_get_within, entry_there)
 
   -- the key of an entry that was read
   pub key_read : (place at : ℕ) (bytes : List ℕ) → place < count → at ≡ sorted_entry_at shape region place → at + entry_len shape ≤ length image → bytes ≡ slice_range image at (at + 20)
@@ -62,10 +56,8 @@ module _ (shape : Shape) (region count : ℕ) (image : List ℕ) where
   key_read place at bytes below here fits read =
       let len : ℕ = entry_len shape in
       let none : at + 0 ≡ at = omega arith in
-      let front : slice_range image at (at + 20) ≡ take 20 (slice_range image at (at + len)) =
-      ap (λ n. slice_range image n (n + 20)) (sym none) ∙ slice_of_slice image at len 0 20 (omega arith) fits in
-      key_of_row (sorted_rows shape region count image) place (entry_row (entry_bytes_at place)) (entry_there place below)
-      ∙ sym (read ∙ front ∙ ap (λ n. take 20 (slice_range image n (n + len))) here)
+      let front : slice_range image at (at + 20) ≡ take 20 (slice_range image at (at + len)) = cc (slice_of_slice image at len 0 20 (omega arith) fits) in
+      cc (key_of_row (sorted_rows shape region count image) place (entry_row (entry_bytes_at place)) (entry_there place below))
 
   -- the value of an entry that was read
   pub value_read : (place at n : ℕ) (bytes : List ℕ) → place < count → at ≡ sorted_entry_at shape region place → at + entry_len shape ≤ length image
@@ -81,9 +73,7 @@ module _ (shape : Shape) (region count : ℕ) (image : List ℕ) where
   -- an entry that was read
   pub entry_read : (place at n : ℕ) (bytes : List ℕ) → place < count → at ≡ sorted_entry_at shape region place → n ≡ entry_len shape
       → bytes ≡ slice_range image at (at + n) → HasEntry (sorted_rows shape region count image) place bytes
-  entry_read place at n bytes below here long read =
-      entry_there place below
-      ∙ ap (λ b. Some (entry_row b)) (sym (read ∙ ap (λ m. slice_range image at (at + m)) long ∙ ap (λ m. slice_range image m (m + entry_len shape)) here))
+  entry_read place at n bytes below here long read = search (arith, entry_there)
 
 -- the entries of a region are so many puts
 pub entries_law : EntriesLaw

@@ -1,11 +1,11 @@
 -- The place that an index names for a key, and what the row there means for the look-up.
-use Rattle.std.proofs.Common.{◌≡◌, ◌≢◌, ℕ, ◌<◌, ◌≤◌, Bool, true, false, not, inl, inr, List, [], length, take, drop, slice_get, Option, Some, None, sym, ap, ◌∙◌, arith}
+use Rattle.std.proofs.Common.{◌≡◌, ◌≢◌, ℕ, ◌<◌, ◌≤◌, Bool, true, false, not, List, [], length, take, drop, slice_get, Option, Some, None, sym, ◌∙◌, arith}
 use Rattle.std.specs.Str.{bytes_eq}
 use Rattle.std.proofs.lemmas.Bool.{cases_Bool}
 use Rattle.std.proofs.lemmas.Slice.Eq.{bytes_eq-Decides}
 use Rattle.std.proofs.lemmas.List.{length-map}
 use Rattle.std.proofs.lemmas.Option.{slice_get_within}
-use Rattle.silt_frame.specs.Rows.{StoredRow, entry_row, keys_of}
+use Rattle.silt_frame.specs.Rows.{StoredRow, entry_row}
 use Rattle.silt_sorted_store.specs.Findings.{sorted_findings}
 use Rattle.silt_sorted_store.specs.Index.{IsIndexOf, IsPlaceOfKey}
 use Rattle.silt_sorted_store.specs.OnlyRow.{FindsEntry, HasEntry, HasKeyAndValue, HasNoEntry, HasOnlyValue, HasValue, IsOnlyRow}
@@ -16,16 +16,11 @@ use Rattle.silt_trie.specs.Marks.{IsMarkedPlace, MarkedCode}
 module _ (rows : List StoredRow) (key : List ℕ) where
   -- the index of the rows names the key's place
   pub named_place : (index : MarkedCode) (found : Option ℕ) → IsMarkedPlace index key found → IsIndexOf rows index → IsPlaceOfKey rows key found
-  named_place index found named is = λ place inside at.
-      let long = length-map rows (λ (r : StoredRow). r.key) in
-      named (keys_of rows) place is (omega (arith, long), at)
+  named_place index found named is = search (arith, length-map)
 
   -- a place outside the rows is none
   pub no_place_outside : (place : ℕ) → length rows ≤ place → IsPlaceOfKey rows key (Some place) → IsPlaceOfKey rows key None
-  no_place_outside place outside named = λ other inside at.
-      let is = named other inside at in
-      let same : place ≡ other = cc in
-      absurd (omega (arith, same, inside, outside))
+  no_place_outside place outside named = search arith
 
   -- if no place is named, no row has the key
   pub none_named : IsPlaceOfKey rows key None → HasNoEntry rows key
@@ -33,18 +28,11 @@ module _ (rows : List StoredRow) (key : List ℕ) where
 
   -- nor if the row at the named place has another
   pub other_named : (place : ℕ) → IsPlaceOfKey rows key (Some place) → key_at rows place ≢ key → HasNoEntry rows key
-  other_named place named other = λ standing inside at.
-      let is = named standing inside at in
-      let same : place ≡ standing = cc in
-      other (ap (key_at rows) same ∙ at)
+  other_named place named other = search arith
 
   -- a row that has the key is the only one
   only_row : (place : ℕ) (row : StoredRow) → sorted_findings rows ≡ [] → slice_get rows place ≡ Some row → row.key ≡ key → IsOnlyRow rows key place row
-  only_row place row none there has = record {
-    there = there;
-    has_key = has;
-    only = λ other below same. one_place rows other place none below (slice_get_within rows place row there) (same ∙ sym (key_of_row rows place row there ∙ has));
-  }
+  only_row place row none there has = search (arith, one_place, slice_get_within, key_of_row)
 
   -- the row at the place that has the key
   pub found_here : (place : ℕ) → sorted_findings rows ≡ [] → place < length rows → key_at rows place ≡ key → FindsEntry rows key (Some place)
@@ -65,10 +53,7 @@ module _ (a b : List ℕ) (test : Bool) (tests : test ≡ not (bytes_eq a b)) wh
 
   -- they are the same
   pub keys_agree : test ≡ false → a ≡ b
-  keys_agree is = elim (cases_Bool (bytes_eq a b)) [
-    | inl same ↦ (bytes_eq-Decides a b).0 same
-    | inr other ↦ absurd (cc)
-  ]
+  keys_agree is = search (arith, cases_Bool, bytes_eq-Decides)
 
 -- ---- what reads of an entry mean
 

@@ -1,5 +1,5 @@
 -- Lists made of the numbers of a range.
-use Rattle.std.proofs.Common.{◌≡◌, ℕ, zero, suc, ◌+◌, ◌<◌, ◌≤◌, List, [], ◌∷◌, ◌++◌, flat_map, slice_get, Some, inl, inr, refl, sym, ap, ◌∙◌, arith}
+use Rattle.std.proofs.Common.{◌≡◌, ℕ, zero, suc, ◌+◌, ◌<◌, ◌≤◌, List, [], ◌∷◌, ◌++◌, flat_map, slice_get, Some, refl, arith}
 use Rattle.std.specs.List.{range_with_len}
 use Rattle.std.proofs.lemmas.Bool.{cases_eq}
 use Rattle.silt_event.proofs.Findings.{nothing_both, nothing_first, nothing_second}
@@ -12,28 +12,15 @@ first_of_front (y ∷ xs) ys x first = first
 -- if the whole list is empty, each part is
 pub none_of_each : {X : Type 0} (f : ℕ → List X) (from n : ℕ) → flat_map f (range_with_len from n) ≡ [] → (place : ℕ) → from ≤ place → place < from + n → f place ≡ []
 none_of_each f from zero none place low high = absurd (omega arith)
-none_of_each f from (suc n) none place low high =
-    let rest = flat_map f (range_with_len (from + 1) n) in
-    elim (cases_eq place from) [
-      | inl same ↦ ap f same ∙ nothing_first (f from) rest none
-      | inr other ↦ none_of_each f (from + 1) n (nothing_second (f from) rest none) place (omega arith) (omega arith)
-    ]
+none_of_each f from (suc n) none place low high = search (arith, none_of_each f (from + 1) n, cases_eq, nothing_first, nothing_second)
 
 -- and the other way round
 pub none_of_all : {X : Type 0} (f : ℕ → List X) (from n : ℕ) → ((place : ℕ) → from ≤ place → place < from + n → f place ≡ []) → flat_map f (range_with_len from n) ≡ []
 none_of_all f from zero each = refl
-none_of_all f from (suc n) each =
-    nothing_both (f from) (flat_map f (range_with_len (from + 1) n)) (each from (omega arith) (omega arith)) (none_of_all f (from + 1) n (λ place low high. each place (omega arith) (omega arith)))
+none_of_all f from (suc n) each = search (arith, none_of_all f (from + 1) n, nothing_both)
 
 -- the first that comes of them is that of the first number of which something comes
 pub first_of_range : {X : Type 0} (f : ℕ → List X) (from n at : ℕ) (x : X) → from ≤ at → at < from + n
     → ((place : ℕ) → from ≤ place → place < at → f place ≡ []) → slice_get (f at) 0 ≡ Some x → slice_get (flat_map f (range_with_len from n)) 0 ≡ Some x
 first_of_range f from zero at x low high before first = absurd (omega arith)
-first_of_range f from (suc n) at x low high before first =
-    let rest = flat_map f (range_with_len (from + 1) n) in
-    elim (cases_eq at from) [
-      | inl same ↦ first_of_front (f from) rest x (ap (λ (p : ℕ). slice_get (f p) 0) (sym same) ∙ first)
-      | inr other ↦
-          ap (λ l. slice_get (l ++ rest) 0) (before from (omega arith) (omega arith))
-          ∙ first_of_range f (from + 1) n at x (omega arith) (omega arith) (λ place least below. before place (omega arith) below) first
-    ]
+first_of_range f from (suc n) at x low high before first = search (arith, first_of_range f (from + 1) n, cases_eq, first_of_front)

@@ -7,9 +7,7 @@ use Rattle.std.specs.declared.cmp.Ordering.TheVariants.{Less, Equal, Greater}
 use Rattle.std.proofs.lemmas.Bool.{cases_order}
 use Rattle.std.proofs.lemmas.Cmp.{nat_list_cmp_total, tied_itself}
 use Rattle.silt_frame.specs.Rows.{StoredRow, keys_of}
-use Rattle.silt_sorted_store.specs.Findings.{entry_findings, is_key_below, sorted_findings}
-use Rattle.silt_event.specs.declared.damage.Finding.TheVariants.{Damaged}
-use Rattle.silt_event.specs.declared.place.Place.TheVariants.{Sorted}
+use Rattle.silt_sorted_store.specs.Findings.{entry_findings, sorted_findings}
 use Rattle.silt_event.proofs.Findings.{passes_where_nothing}
 use Rattle.silt_sorted_store.specs.Laws.{RisingLaw}
 use Rattle.silt_sorted_store.proofs.Ranges.{none_of_each}
@@ -36,19 +34,17 @@ unfolding sorted_findings
 next_above rows place none inside =
     let before : place + 1 - 1 ≡ place = omega arith in
     let found = none_of_each (entry_findings rows) 1 (length rows - 1) none (place + 1) (omega arith) (omega arith) in
-    ap (λ (p : ℕ). slice_cmp nat_cmp (key_at rows p) (key_at rows (place + 1))) (sym before)
-    ∙ is_less _ (passes_where_nothing (is_key_below (key_at rows (place + 1 - 1)) (key_at rows (place + 1))) (Damaged (Sorted (place + 1))) found)
+    search (arith, is_less, passes_where_nothing)
 
 -- and above all before it
 rising : (rows : List StoredRow) (low gap : ℕ) → sorted_findings rows ≡ [] → low + gap + 1 < length rows → slice_cmp nat_cmp (key_at rows low) (key_at rows (low + gap + 1)) ≡ Less
 rising rows low zero none inside =
     let here : low + 0 ≡ low = omega arith in
-    ap (λ (p : ℕ). slice_cmp nat_cmp (key_at rows low) (key_at rows (p + 1))) here ∙ next_above rows low none (omega arith)
+    search (arith, next_above)
 rising rows low (suc gap) none inside =
     let here : low + suc gap ≡ low + gap + 1 = omega arith in
-    nat_list_cmp_total.trans (key_at rows low) (key_at rows (low + suc gap)) (key_at rows (low + suc gap + 1))
-    (ap (λ (p : ℕ). slice_cmp nat_cmp (key_at rows low) (key_at rows p)) here ∙ rising rows low gap none (omega arith))
-    (next_above rows (low + suc gap) none inside)
+    nat_list_cmp_total.trans (key_at rows low) (key_at rows (low + suc gap)) (key_at rows (low + suc gap + 1)) (search (arith, rising rows low gap none))
+    (next_above rows _ none inside)
 
 -- a lower place has a lower key
 pub lower_below : (rows : List StoredRow) (low high : ℕ) → sorted_findings rows ≡ [] → low < high → high < length rows → slice_cmp nat_cmp (key_at rows low) (key_at rows high) ≡ Less
@@ -66,7 +62,4 @@ one_place rows place other none inside_place inside_other same = elim (cases_ord
 
 -- rows without a finding rise
 pub rising_law : RisingLaw
-rising_law rows none = record {
-  below = λ low high lower inside. ap is_lt (lower_below rows low high none lower inside);
-  once = λ place other inside_place inside_other same. one_place rows place other none inside_place inside_other same;
-}
+rising_law rows none = search (arith, lower_below, one_place)

@@ -1,31 +1,24 @@
 -- The disk after the write of an entry.
-use Rattle.std.proofs.Common.{◌≡◌, ℕ, ◌+◌, ◌*◌, ◌<◌, ◌≤◌, ◌&&◌, nat_lt, Bool, true, false, cond, IsTrue, List, [], ◌∷◌, ◌++◌, length, take, slice_range, sym, subst, ap, ◌∙◌, arith, append-nil}
+use Rattle.std.proofs.Common.{◌≡◌, ℕ, ◌+◌, ◌*◌, ◌<◌, ◌≤◌, ◌&&◌, nat_lt, Bool, true, false, cond, IsTrue, List, ◌++◌, length, take, sym, subst, ap, ◌∙◌, arith, append-nil}
 use Rattle.std.proofs.lemmas.Bool.{le-ltb, lt-ltb}
 use Rattle.std.proofs.lemmas.List.{length-append, take-append-le, take_all}
-use Rattle.silt_disk.specs.Disk.{ChangesWithin, Content, Tears, Writes, size, splice}
+use Rattle.silt_disk.specs.Disk.{ChangesWithin, Content, Tears, Writes, size}
 use Rattle.silt_disk.specs.Layout.{Shape, device_size, entry_len, sorted_at}
 use Rattle.silt_disk.proofs.Images.{splice_slice, within_wider, write_within}
 use Rattle.silt_sorted_store.specs.State.{sorted_rows, sorted_entry_at}
-use Rattle.silt_frame.specs.Rows.{entry_row, StoredRow}
 use Rattle.silt_sorted_store.specs.Region.{due_rows, is_written}
-use Rattle.silt_sorted_store.proofs.Elsewhere.{entries_before, entries_inside, entry_bytes, entry_more}
+use Rattle.silt_sorted_store.proofs.Elsewhere.{entries_before, entries_inside, entry_more}
 use Rattle.silt_sorted_store.proofs.Entries.{entry_count, part_inside}
 
 module _ (s : Shape) (region place : ℕ) where
   -- if there is no entry to write, nothing is written
   pub none_due : (image bytes : List ℕ) (due : Bool) → place ≤ s.sorted_capacity → due ≡ false
       → sorted_rows s region place image ≡ take s.sorted_capacity (sorted_rows s region place image ++ due_rows due bytes)
-  none_due image bytes due most none =
-      let rows : List StoredRow = sorted_rows s region place image in
-      let long = entry_count s region place image in
-      sym (ap (λ d. take s.sorted_capacity (rows ++ due_rows d bytes)) none ∙ ap (take s.sorted_capacity) (append-nil rows) ∙ take_all s.sorted_capacity rows (omega (arith, long)))
+  none_due image bytes due most none = search (arith, entry_count, append-nil, take_all)
 
   -- nor if the region is full
   pub none_more : (image bytes : List ℕ) (due : Bool) → place ≡ s.sorted_capacity → sorted_rows s region place image ≡ take s.sorted_capacity (sorted_rows s region place image ++ due_rows due bytes)
-  none_more image bytes due full =
-      let rows : List StoredRow = sorted_rows s region place image in
-      let long = entry_count s region place image in
-      sym (take-append-le s.sorted_capacity rows (due_rows due bytes) (omega (arith, long)) ∙ take_all s.sorted_capacity rows (omega (arith, long)))
+  none_more image bytes due full = search (arith, entry_count, take-append-le, take_all)
 
   module _ (at : ℕ) (bytes : List ℕ) (old new : Content) (here : at ≡ sorted_entry_at s region place) (long : length bytes ≡ entry_len s) (tears : Tears at (length bytes) old new) where
     -- only the entry is changed
@@ -41,27 +34,15 @@ module _ (s : Shape) (region place : ℕ) where
     -- the entries before it stay
     pub entries_kept : region < 2 → place < s.sorted_capacity → device_size s ≤ size old → IsTrue old.honest → sorted_rows s region place new.shown ≡ sorted_rows s region place old.shown
     entries_kept there below fits honest =
-        let ends = entries_inside s region there in
-        entries_before s region place old.shown new.shown (omega (arith, ends)) (omega arith) (entry_changes.shown honest)
+        entries_before s region place old.shown new.shown (omega (arith, entries_inside s region there)) (omega arith) (entry_changes.shown honest)
 
     -- and it is the next one
     pub entry_written : (due : Bool) → due ≡ true → region < 2 → place < s.sorted_capacity → device_size s ≤ size old → Writes at bytes old new → IsTrue old.honest
         → sorted_rows s region (place + 1) new.shown ≡ take s.sorted_capacity (sorted_rows s region place old.shown ++ due_rows due bytes)
     entry_written due is there below fits writes honest =
         let ends = entries_inside s region there in
-        let inside = part_inside (sorted_at s region) (entry_len s) s.sorted_capacity place (size old) (omega (arith, ends)) below in
-        let rows : List StoredRow = sorted_rows s region place old.shown ++ entry_row bytes ∷ [] in
-        let count = entry_count s region place old.shown in
-        let whole : length rows ≤ s.sorted_capacity = omega (arith, length-append (sorted_rows s region place old.shown) (entry_row bytes ∷ []), count) in
-        let shown : entry_bytes s region new.shown place ≡ bytes =
-        ap (λ image. slice_range image (sorted_entry_at s region place) (sorted_entry_at s region place + entry_len s)) (writes.shown honest)
-        ∙ ap (λ n. slice_range (splice at bytes old.shown) n (n + entry_len s)) (sym here)
-        ∙ ap (λ n. slice_range (splice at bytes old.shown) at (at + n)) (sym long)
-        ∙ splice_slice at bytes old.shown (omega (arith, inside)) in
-        entry_more s region place new.shown
-        ∙ ap (λ l. l ++ entry_row (entry_bytes s region new.shown place) ∷ []) (entries_kept there below fits honest)
-        ∙ ap (λ b. sorted_rows s region place old.shown ++ entry_row b ∷ []) shown
-        ∙ sym (ap (λ d. take s.sorted_capacity (sorted_rows s region place old.shown ++ due_rows d bytes)) is ∙ take_all s.sorted_capacity rows whole)
+        let inside = part_inside (sorted_at s region) (entry_len s) _ place (size old) (omega (arith, ends)) below in
+        search (arith, entry_count, length-append, splice_slice, entry_more, entries_kept, take_all, writes.shown)
 
 -- an entry that is not due is not written
 pub not_due : (due : Bool) (place capacity : ℕ) → due ≡ false → is_written due place capacity ≡ false
