@@ -1,5 +1,5 @@
 -- Rounds of SHA-1, and the words of a block.
-use Rattle.std.proofs.Common.{◌≡◌, ◌∙◌, ℕ, suc, ◌+◌, ◌-◌, ◌*◌, ◌≤◌, List, ◌∷◌, [], ◌++◌, take, slice_index, refl, ap, subst, sym, arith}
+use Rattle.std.proofs.Common.{◌≡◌, ◌∙◌, ℕ, suc, ◌+◌, ◌*◌, List, ◌∷◌, [], ◌++◌, take, slice_index, refl, ap, subst, arith}
 use Rattle.std.proofs.lemmas.List.{get_or-take}
 use Rattle.sha1.specs.Sha1.{add_state, compress, first_words, next_word, round, round_constant, round_fn, rounds, schedule, word_at}
 
@@ -7,9 +7,7 @@ use Rattle.sha1.specs.Sha1.{add_state, compress, first_words, next_word, round, 
 pub one_round : (h w v r : List ℕ) (t n : ℕ) → n ≡ suc t → v ≡ rounds h w t
     → r ≡ round v (round_fn t (slice_index v 1) (slice_index v 2) (slice_index v 3)) (round_constant t) (slice_index w t) → r ≡ rounds h w n
 unfolding rounds
-one_round h w v r t n next is done =
-    subst (λ (m : ℕ). r ≡ rounds h w m) (sym next)
-    (done ∙ ap (λ (x : List ℕ). round x (round_fn t (slice_index x 1) (slice_index x 2) (slice_index x 3)) (round_constant t) (slice_index w t)) is)
+one_round h w v r t n next is done = search arith
 
 -- no round yet
 pub no_round : (h w : List ℕ) → h ≡ rounds h w 0
@@ -20,9 +18,7 @@ no_round h w = refl
 pub one_word : (block words : List ℕ) (i n : ℕ) (word : ℕ) → n ≡ suc i → take i words ≡ first_words block i → word ≡ word_at block (4 * i)
     → take i words ++ word ∷ [] ≡ first_words block n
 unfolding first_words
-one_word block words i n word next is made =
-    subst (λ (m : ℕ). take i words ++ word ∷ [] ≡ first_words block m) (sym next)
-    (ap (λ (x : List ℕ). x ++ word ∷ []) is ∙ ap (λ (x : ℕ). first_words block i ++ x ∷ []) made)
+one_word block words i n word next is made = search arith
 
 -- the words before the first one that is made are those of the block
 pub no_word_made : (block words : List ℕ) (i : ℕ) → i ≡ 16 → take i words ≡ first_words block i → take 16 words ≡ schedule block 0
@@ -33,17 +29,7 @@ no_word_made block words i is words_are = subst (λ (n : ℕ). take n words ≡ 
 pub one_word_made : (block words : List ℕ) (t m n : ℕ) (word : ℕ) → t ≡ m + 16 → n ≡ suc m → take t words ≡ schedule block m → word ≡ next_word words t
     → take t words ++ word ∷ [] ≡ schedule block n
 unfolding schedule
-one_word_made block words t m n word at next is made =
-    subst (λ (k : ℕ). take t words ++ word ∷ [] ≡ schedule block k) (sym next)
-    (ap (λ (x : List ℕ). x ++ word ∷ []) is ∙ ap (λ (x : ℕ). schedule block m ++ x ∷ [])
-    (made ∙ sym seen ∙ ap (λ (x : List ℕ). next_word x t) is ∙ ap (λ (x : ℕ). next_word (schedule block m) x) at))
-  where
-    before : (k : ℕ) → 1 ≤ k → k ≤ 16 → slice_index (take t words) (t - k) ≡ slice_index words (t - k)
-    before k least most = get_or-take t words (t - k) 0 (omega arith)
-
-    seen : next_word (take t words) t ≡ next_word words t
-    seen = rw (before 3 (search (arith)) (search (arith)))
-        (rw (before 8 (search (arith)) (search (arith))) (rw (before 14 (search (arith)) (search (arith))) (rw (before 16 (search (arith)) (search (arith))) refl)))
+one_word_made block words t m n word at next is made = search (arith, get_or-take)
 
 -- a block's words and all rounds make its compression
 pub compressed : (h block words after : List ℕ) → words ≡ schedule block 64 → after ≡ rounds h words 80 → add_state h after ≡ compress h block

@@ -29,9 +29,7 @@ same_padding total length is =
 -- the number of bytes that are taken in from the first one on
 counted : (taken : Taken) (bytes : List ℕ) → HasTaken taken bytes → taken.total ≡ length bytes % 2 ^ 64
 unfolding HasTaken taken_after
-counted taken bytes has =
-    let total : taken.total ≡ (0 + length bytes) % 2 ^ 64 = ap (λ (t : Taken). t.total) has in
-    omega (arith, total)
+counted taken bytes has = search arith
 
 -- the hash value of these bytes
 hashed : (taken : Taken) (bytes : List ℕ) → HasTaken taken bytes → taken.hash ≡ hash_after bytes (length bytes / 64)

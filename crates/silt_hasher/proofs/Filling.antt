@@ -13,9 +13,7 @@ use borrow.Rule.Slice.PartMut.{post_of, put_mid}
 pub short : (taken : Taken) (bytes : List ℕ) → length (taken.left ++ bytes) < 64
     → taken_after taken bytes ≡ record { hash = taken.hash; left = taken.left ++ bytes; total = (taken.total + length bytes) % 2 ^ 64 }
 unfolding taken_after hash_from
-short taken bytes few =
-    let none : length (taken.left ++ bytes) / 64 ≡ zero = omega (arith, few) in
-    rw none refl
+short taken bytes few = search arith
 
 -- bytes that fill the block
 pub whole : (taken : Taken) (bytes : List ℕ) → length (taken.left ++ bytes) ≡ 64
@@ -24,8 +22,7 @@ unfolding taken_after hash_from
 whole taken bytes full =
     let one : length (taken.left ++ bytes) / 64 ≡ suc zero = omega (arith, full) in
     let block : take 64 (taken.left ++ bytes) ≡ taken.left ++ bytes = take_all 64 (taken.left ++ bytes) (omega (arith, full)) in
-    let rest : drop 64 (taken.left ++ bytes) ≡ [] = drop_all 64 (taken.left ++ bytes) (omega (arith, full)) in
-    rw (one, block, rest) refl
+    search (arith, drop_all)
 
 -- the block is short behind the bytes
 pub fills_short : (old new : Sha1State) (bytes ys : List ℕ) (used k : ℕ) → length old.block ≡ 64 → used ≡ old.total % 64 → used + length bytes < 64 → ys ≡ bytes
@@ -33,8 +30,7 @@ pub fills_short : (old new : Sha1State) (bytes ys : List ℕ) (used k : ℕ) →
 fills_short old new bytes ys used k len is few same hash block total =
     let left_len : length (take used old.block) ≡ used = length-take-le used old.block (omega (arith, len, few)) in
     let at : new.total % 64 ≡ used + length bytes = omega (arith, is, few, total) in
-    let left : take (used + length bytes) new.block ≡ take used old.block ++ bytes =
-    rw (block, same) (take-put_mid used k old.block bytes (used + length bytes) refl (omega (arith, len, few))) in
+    let left : take (used + length bytes) new.block ≡ take used old.block ++ bytes = search (arith, take-put_mid) in
     let all : length (take (old.total % 64) old.block ++ bytes) < 64 = rw (← is) (omega (arith, length-append (take used old.block) bytes, left_len, few)) in
     rw (short (taken_of old) bytes all, at, ← is, left, hash, total) refl
 

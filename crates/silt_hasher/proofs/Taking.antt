@@ -1,11 +1,11 @@
 -- What is taken in, part by part.
-use Rattle.std.proofs.Common.{Vec, ◌≡◌, ℕ, zero, suc, ◌+◌, ◌-◌, ◌*◌, ◌/◌, ◌%◌, ◌^◌, ◌≤◌, List, [], ◌++◌, length, take, drop, refl, sym, ap, subst, ◌∙◌, arith, length-append, length-drop}
+use Rattle.std.proofs.Common.{Vec, ◌≡◌, ℕ, zero, suc, ◌+◌, ◌-◌, ◌*◌, ◌/◌, ◌≤◌, List, [], ◌++◌, length, take, drop, refl, sym, ap, subst, ◌∙◌, arith, length-append, length-drop}
 use Rattle.std.proofs.lemmas.Slice.{take-put_mid}
 use Rattle.std.specs.List.{copy_within}
 use Rattle.std.specs.Vec.{with_items}
 use Rattle.std.proofs.Math.Seq.{paste}
 use Rattle.std.proofs.lemmas.List.Edits.{take-paste}
-use borrow.Rule.Slice.PartMut.{post_of, put_mid}
+use borrow.Rule.Slice.PartMut.{put_mid}
 use Rattle.std.proofs.lemmas.List.{drop-take, length-take-le, with_items_is, append_assoc, append-nil, drop-append-le, drop-drop, take-append-le, take-append-drop, take-take}
 use Rattle.sha1.specs.Sha1.{hash_after, initial_hash}
 use Rattle.silt_hasher.specs.Taking.{HasTaken, Taken, hash_from, taken_after}
@@ -17,9 +17,8 @@ from_same hash a b zero _ = refl
 from_same hash a b (suc n) same =
     let more : suc n * 64 ≡ n * 64 + 64 = omega arith in
     let both : take (n * 64 + 64) a ≡ take (n * 64 + 64) b = rw (← more) same in
-    let before : take (n * 64) a ≡ take (n * 64) b =
-    sym (take-take (n * 64) (n * 64 + 64) a (omega arith)) ∙ ap (take (n * 64)) both ∙ take-take (n * 64) (n * 64 + 64) b (omega arith) in
-    let block : take 64 (drop (n * 64) a) ≡ take 64 (drop (n * 64) b) = sym (drop-take (n * 64) 64 a) ∙ ap (drop (n * 64)) both ∙ drop-take (n * 64) 64 b in
+    let before : take (n * 64) a ≡ take (n * 64) b = cc (take-take (n * 64) (n * 64 + 64) a (omega arith), take-take (n * 64) (n * 64 + 64) b (omega arith)) in
+    let block : take 64 (drop (n * 64) a) ≡ take 64 (drop (n * 64) b) = cc (drop-take (n * 64) 64 a, drop-take (n * 64) 64 b) in
     rw (block, from_same hash a b n before) refl
 
 -- the blocks one after the other
@@ -49,14 +48,7 @@ taken_twice taken a b =
     let left_len : length left ≡ length all - n * 64 = length-drop (n * 64) all in
     let k : ℕ = length (left ++ b) / 64 in
     let count : length (all ++ b) / 64 ≡ k + n = omega (arith, length-append all b, length-append left b, left_len) in
-    let rest : drop (n * 64) (all ++ b) ≡ left ++ b = drop-append-le (n * 64) all b (omega arith) in
-    let hash : hash_from (hash_from taken.hash all n) (left ++ b) k ≡ hash_from taken.hash (all ++ b) (k + n) =
-    sym (from_there taken.hash (all ++ b) n k ∙ rw (from_same taken.hash (all ++ b) all n (take-append-le (n * 64) all b (omega arith)), rest) refl) in
-    let place : (k + n) * 64 ≡ n * 64 + k * 64 = omega arith in
-    let behind : drop (k * 64) (left ++ b) ≡ drop ((k + n) * 64) (all ++ b) =
-    sym (ap (λ (i : ℕ). drop i (all ++ b)) place ∙ sym (drop-drop (k * 64) (n * 64) (all ++ b)) ∙ rw rest refl) in
-    let total : ((taken.total + length a) % 2 ^ 64 + length b) % 2 ^ 64 ≡ (taken.total + length (a ++ b)) % 2 ^ 64 = omega (arith, length-append a b) in
-    rw (joined, count, hash, behind, total) refl
+    search (arith, drop-append-le, from_there, from_same, take-append-le, drop-drop, length-append)
 
 -- no bytes more
 pub taken_none : (taken : Taken) (a : List ℕ) → taken_after (taken_after taken a) [] ≡ taken_after taken a
@@ -75,16 +67,12 @@ unfolding HasTaken
 has_none taken has = rw has (taken_none _ [])
 
 length-put_mid : (a k : ℕ) (xs ys : List ℕ) → a + k ≤ length xs → length ys ≡ k → length (put_mid a k xs ys) ≡ length xs
-length-put_mid a k xs ys fits count =
-    omega (arith, fits, count, length-append (take a xs) (ys ++ post_of a k xs), length-append ys (post_of a k xs), length-take-le a xs (omega arith), length-drop k (drop a xs), length-drop a xs)
+length-put_mid a k xs ys fits count = search (arith, length-append, length-take-le, length-drop)
 
 -- bytes that are written behind those that wait
 pub pended : {Z : Type 0} (hasher : Taken) (items : Vec ℕ Z) (bytes : List ℕ) (len k end : ℕ) → len + length bytes ≤ items.len → k ≡ length bytes → end ≡ len + length bytes
     → taken_after hasher (take end (with_items items (put_mid len k items.items bytes)).items) ≡ taken_after (taken_after hasher (take len items.items)) bytes
-pended hasher items bytes len k end fits count is =
-    let written : (with_items items (put_mid len k items.items bytes)).items ≡ put_mid len k items.items bytes =
-    with_items_is items (put_mid len k items.items bytes) (length-put_mid len k items.items bytes (omega (arith, items.ok.0)) (omega (arith, count)) ∙ sym items.ok.0) in
-    rw (written, take-put_mid len k items.items bytes end is (omega (arith, items.ok.0))) (sym (taken_twice hasher (take len items.items) bytes))
+pended hasher items bytes len k end fits count is = search (arith, with_items_is, length-put_mid, take-put_mid, taken_twice)
 
 pub few_of : (len : ℕ) (items lent : List ℕ) → len ≤ length items → length lent ≤ length (take len items) → length lent ≤ len
 few_of len items lent fits few = omega (arith, few, length-take-le len items fits)
