@@ -6,7 +6,7 @@ use Rattle.silt_disk.specs.Disk.{Content, ChangesWithin, size}
 use Rattle.silt_disk.specs.Layout.{device_size, commits_at}
 use Rattle.silt_frame.specs.declared.key.Key.{Key}
 use Rattle.silt_frame.specs.declared.key.Kind.{Kind}
-use Rattle.silt_cuckoo.specs.Slots.{Slots, IsBucketCount, IsTable, PlacesBelow, bucket_count, empty_slots, entry_at, place_at}
+use Rattle.silt_cuckoo.specs.Slots.{Slots, IsBucketCount, IsTable, PlacesBelow, bucket_count, empty_slots}
 use Rattle.silt_cuckoo.specs.Keys.{first_bucket, second_bucket}
 use Rattle.silt_cuckoo.specs.Lookup.{candidates_of}
 use Rattle.silt_cuckoo.specs.Index.{Indexes, index_of_keys, indexed, placed_or_replaced}
@@ -96,11 +96,6 @@ pub takes_row : (old new : Content) (store : LogStoreState) (log : LogState) (ta
     → Appends (stored_row kind key value) old new store.log log → TakesRow kind key value old new store (record { log = log; table = table; puts = puts })
 takes_row old new store log table puts kind key value placing same index at more placed appends = grind (arith, known_push, keys_push, puts_push)
 
--- the slot of a match has an entry
-pub standing_stands : (slots : Slots) (found : Option Match) → IfSome found (λ (m : Match). place_at slots m.slot ≡ Some m.found.place)
-    → IfSome (option_map (λ (m : Match). m.slot) found) (λ slot. IsSome (entry_at slots slot))
-standing_stands slots found there = grind arith
-
 -- a table takes an entry at a placing that holds in it
 pub holds_enters : (table : Slots) (placing : Placing) (place : ℕ) → HoldsIn table placing → IsSome (entered table placing place)
 unfolding placed
@@ -148,19 +143,6 @@ placing_none content store key found (Some placing) held room honest index first
         absurd (let clash : true ≡ false = sym enters ∙ none in cc)
   ],
 )
-
--- a placing is returned exactly if a row of the key can be taken
-pub placing_exactly : (content : Content) (store : LogStoreState) (key : List ℕ) → IsTrue content.honest → IsIndexed content store
-    → (placing : Option Placing) → IfSome placing (IsPlacingFor content store key)
-    → ((placing ≡ None) ↔ IsFullFor content store key)
-    → IsTrue (is_some placing) ↔ ((store.log.used < store.log.shape.log_capacity) × IsSome (index_of_keys store.log.shape.buckets (keys_of (all_rows content store.log) ++ key ∷ [])))
-placing_exactly content store key honest index placing some none = grind arith
-
--- and then the log has room
-pub placing_room : (content : Content) (store : LogStoreState) (key : List ℕ) (placing : Option Placing) → IfSome placing (IsPlacingFor content store key)
-    → IsTrue (is_some placing) → store.log.used < store.log.shape.log_capacity
-placing_room content store key None some answered = absurd (cc)
-placing_room content store key (Some placing) some answered = some.room
 
 -- a change of commit bytes alone leaves the rows that are shown
 pub commits_leave_rows : (old new : Content) (log : LogState) (from count : ℕ) → InBounds log → device_size log.shape ≤ size old

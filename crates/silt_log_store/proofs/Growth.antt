@@ -20,7 +20,7 @@ use Rattle.silt_cuckoo.proofs.Indexing.{index_law}
 use Rattle.silt_cuckoo.proofs.Finding.{find_law}
 use Rattle.silt_cuckoo.proofs.Search.{found_in_range}
 use Rattle.silt_log.specs.Rows.{row_at, row_head, first_rows, log_rows}
-use Rattle.silt_frame.specs.Rows.{has_known_kind, StoredRow, keys_of, puts_of}
+use Rattle.silt_frame.specs.Rows.{has_known_kind, StoredRow, puts_of}
 use Rattle.silt_log.specs.State.{LogState, InBounds, IsScanned}
 use Rattle.silt_log_store.specs.Growth.{IsKeyIndex, IsOfRows, AddsKey}
 use Rattle.silt_log_store.specs.Rebuild.{IsSoundBefore, IsFirstDamaged, IsFirstCrowded, IsRebuilt, IsRefusedRebuild, has_known_kind_at}
@@ -149,10 +149,6 @@ module _ (content : Content) (log : LogState) (index : KeyIndex) (scanned : IsTr
   pub rows_are : IsTrue content.honest → first_rows log.shape log.region content.shown log.used ≡ log_rows log.shape log.region content.shown
   unfolding log_rows
   rows_are honest = ap (first_rows log.shape log.region content.shown) (scanned honest).used
-
-  -- their keys have this table
-  keys_table : IsTrue content.honest → index_of_keys log.shape.buckets (keys_of (first_rows log.shape log.region content.shown log.used)) ≡ Some index.table
-  keys_table honest = ap (index_of_keys log.shape.buckets) (sym (are honest).keys_are) ∙ ap (λ n. index_of_keys n index.keys.items) (sym buckets) ∙ is.indexed
 
   -- and rebuilt
   pub rebuilt_is : IsTrue content.honest → IsRebuilt content (record { log = log; table = index.table; puts = index.puts })
