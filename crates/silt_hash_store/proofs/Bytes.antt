@@ -82,10 +82,6 @@ pub more_fed : (hasher : Sha1) (store : HashState) (first count : ℕ) (image by
     → Holds hasher (rows_bytes (rows_before store.shape store.region image first) ++ bytes) → IsFed hasher store image (first + count)
 more_fed hasher store first count image bytes holds long fed = subst (λ (l : List ℕ). Holds hasher l) (sym (bytes_read store.shape store.region first count image bytes holds long)) fed
 
--- of a store of the same region
-pub fed_same : (hasher : Sha1) (a b : HashState) (image : List ℕ) (count : ℕ) → a.shape ≡ b.shape → a.region ≡ b.region → IsFed hasher a image count → IsFed hasher b image count
-fed_same hasher a b image count shape number fed = grind arith
-
 -- what holds anyway holds if a call succeeds
 pub ends_well : {X E : Type 0} (result : Result X E) (P : Type 0) → P → OnOk result P
 ends_well (Ok x) P holds = holds

@@ -1,6 +1,6 @@
 -- A rebuild, slot by slot, and the findings in a hash region.
-use Rattle.std.proofs.Common.{◌≡◌, ◌≢◌, ℕ, zero, suc, ◌+◌, ◌*◌, ◌<◌, eqb, Bool, true, false, not, cond, IsTrue, List, [], ◌∷◌, ◌++◌, length, filter, flat_map, take, get_or, slice_get}
-use Rattle.std.proofs.Common.{slice_set, replicate, Option, Some, None, inl, inr, refl, sym, subst, ap, ◌∙◌, arith, length-append, append-nil, get_or-set_other, get_or-set_same}
+use Rattle.std.proofs.Common.{◌≡◌, ℕ, zero, suc, ◌+◌, ◌*◌, ◌<◌, eqb, Bool, true, false, not, cond, IsTrue, List, [], ◌∷◌, ◌++◌, length, filter, flat_map, take, get_or, slice_get, slice_set}
+use Rattle.std.proofs.Common.{replicate, Option, Some, None, inl, inr, refl, sym, subst, ap, ◌∙◌, arith, length-append, append-nil, get_or-set_other, get_or-set_same}
 use Rattle.std.specs.List.{enumerate_from}
 use Rattle.std.specs.Option.{is_some}
 use Rattle.std.proofs.lemmas.Bool.{and_from, cases_eq}
@@ -35,8 +35,7 @@ use Rattle.silt_log.specs.declared.scan.ScanError.{ScanError}
 use Rattle.silt_log.specs.declared.scan.ScanError.TheVariants.{Damaged}
 use Rattle.silt_hash_store.specs.declared.rebuild.Rebuilt.{Rebuilt}
 use Rattle.silt_hash_store.proofs.Finding.{untagged_none}
-use Rattle.silt_hash_store.proofs.Slotting.{all_before, before_count, before_more, before_taken, before_there, empty_not_known, sound_empty, sound_known, tag_empty, tag_known}
-use Rattle.silt_hash_store.proofs.Slotting.{unsound_bucket, unsound_kind, unsound_twice}
+use Rattle.silt_hash_store.proofs.Slotting.{all_before, before_count, before_more, before_taken, before_there, empty_not_known, sound_known, tag_empty, tag_known, unsound_twice}
 
 -- ---- findings
 
@@ -157,19 +156,10 @@ module _ (store : HashState) (image : List ℕ) (slot : ℕ) (is : IsTagged stor
   earlier : take slot (hash_rows store.shape store.region image) ≡ rows_before store.shape store.region image slot
   earlier = before_taken store.shape store.region image slot is.most
 
-  -- an empty slot adds nothing
-  pub adds_nothing : shown.kind ≡ 0 → AddsSound store image slot None
-  adds_nothing empty = record { sound = sound_empty store.shape (hash_rows store.shape store.region image) slot shown empty; adds = empty }
-
   -- a row that is new adds its kind and its tag
   pub adds_row : (kind : Kind) (key : List ℕ) (tag : ℕ) → kind_of shown.kind ≡ Some kind → key ≡ shown.key → TagsKey store.shape slot key (Some tag)
       → FindsRow (rows_before store.shape store.region image slot) key None → AddsSound store image slot (Some (kind, tag))
   adds_row kind key tag is_kind same (inside, other) none = search (arith, head_known, sound_known, earlier, tag_known)
-
-  -- a row in another bucket is not sound
-  pub elsewhere_unsound : (kind : Kind) (key : List ℕ) → kind_of shown.kind ≡ Some kind → key ≡ shown.key → TagsKey store.shape slot key None
-      → is_sound_slot store.shape store.region image slot ≡ false
-  elsewhere_unsound kind key is_kind same outside = search (arith, unsound_bucket, head_known)
 
   -- nor is a row whose key an earlier slot has
   pub twice_unsound : (kind : Kind) (key : List ℕ) (found : Found) → kind_of shown.kind ≡ Some kind → key ≡ shown.key → FindsRow (rows_before store.shape store.region image slot) key (Some found)
@@ -187,11 +177,6 @@ module _ (store : HashState) (image : List ℕ) (slot : ℕ) (is : IsTagged stor
       known_byte : (kind : Kind) (byte : ℕ) → kind_byte kind ≡ byte → is_some (kind_of byte) ≡ true
       known_byte Put byte e = ap (λ n. is_some (kind_of n)) (sym e)
       known_byte Delete byte e = ap (λ n. is_some (kind_of n)) (sym e)
-
--- a slot of an unknown kind is not sound
-pub unknown_unsound : (s : Shape) (region : ℕ) (image : List ℕ) (slot : ℕ) → kind_of (slot_row s region image slot).kind ≡ None
-    → (slot_row s region image slot).kind ≢ 0 → is_sound_slot s region image slot ≡ false
-unknown_unsound s region image slot unknown some = unsound_kind s (hash_rows s region image) slot (slot_row s region image slot) unknown some
 
 -- ---- one slot more
 

@@ -1,8 +1,7 @@
 -- When a slot is sound, and what its head means for that.
 use Rattle.std.proofs.Common.{◌≡◌, ◌≢◌, ℕ, ◌+◌, ◌*◌, ◌≤◌, ◌<◌, ◌==◌, true, false, List, [], ◌∷◌, ◌++◌, length, take, get_or, slice_get, Some, None, refl, ap, ◌∙◌, arith}
 use Rattle.std.specs.Option.{is_some}
-use Rattle.std.specs.Str.{bytes_eq}
-use Rattle.std.proofs.lemmas.Bool.{cases_Bool, and_from, cond-true, cond-false, eq-eqb, eqb-true, ne_eqb}
+use Rattle.std.proofs.lemmas.Bool.{cases_Bool, cond-true, cond-false, eq-eqb, eqb-true, ne_eqb}
 use Rattle.std.proofs.lemmas.List.FromFn.{get_or-map-range_with_len, length-map-range_with_len, map-range_with_len_more, take-map-range_with_len}
 use Rattle.std.proofs.lemmas.Option.{slice_get-get_or}
 use Rattle.silt_cuckoo.specs.Keys.{first_bucket, second_bucket}
@@ -10,7 +9,7 @@ use Rattle.silt_cuckoo.specs.Placing.{other_bucket}
 use Rattle.silt_disk.specs.Layout.{Shape, hash_at, row_len}
 use Rattle.silt_frame.specs.Frame.{kind_of}
 use Rattle.silt_hash_store.specs.Findings.{holds_key, is_in_bucket, is_sound_hash_slot}
-use Rattle.silt_hash_store.specs.Slots.{hash_rows, is_row_of, rows_before, slot_row, tag_of}
+use Rattle.silt_hash_store.specs.Slots.{hash_rows, rows_before, slot_row, tag_of}
 use Rattle.silt_log.specs.Rows.{body_row}
 use Rattle.silt_frame.specs.Rows.{has_known_kind, StoredRow}
 
@@ -55,10 +54,6 @@ known_not_empty row known = grind (arith, cases_Bool, eqb-true)
 -- an empty one is of no known kind
 pub empty_not_known : (row : StoredRow) → row.kind ≡ 0 → has_known_kind row ≡ false
 empty_not_known row empty = ap (λ n. is_some (kind_of n)) empty
-
--- a row of this key
-pub row_of_key : (row : StoredRow) (key : List ℕ) → has_known_kind row ≡ true → bytes_eq row.key key ≡ true → is_row_of key row ≡ true
-row_of_key row key known same = and_from _ _ known same
 
 -- ---- tags
 
