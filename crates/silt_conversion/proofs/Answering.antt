@@ -1,6 +1,6 @@
 -- Applied to a map, the rows that a conversion writes and the log's rows give the same map.
-use Rattle.std.proofs.Common.{◌≡◌, ℕ, zero, suc, ◌*◌, ◌<◌, ◌⊎◌, Bool, true, false, cond, List, [], ◌∷◌, length, map, filter, get_or, slice_get, Option, Some}
-use Rattle.std.proofs.Common.{None, inl, inr, refl, sym, ap, ◌∙◌, arith, bytes_eq}
+use Rattle.std.proofs.Common.{◌≡◌, ℕ, zero, suc, ◌*◌, ◌<◌, ◌⊎◌, Bool, true, false, cond, List, [], ◌∷◌, length, map, filter, get_or, slice_get, Option, Some, None, inl, inr, refl, sym, ap}
+use Rattle.std.proofs.Common.{◌∙◌, arith, bytes_eq}
 use Rattle.std.specs.FinMap.{get, same_map, slice_cmp-IsAntisymmetric, nat_cmp-IsAntisymmetric}
 use Rattle.std.specs.List.{range_with_len}
 use Rattle.std.proofs.lemmas.Bool.{and_from, and_parts, cases_Bool}
@@ -53,16 +53,12 @@ dropped_first row rows unknown = rw unknown refl
 
 -- a row of the key, if the first is not one
 later_row : (key : List ℕ) (row : StoredRow) (rows : List StoredRow) → is_row_of key row ≡ false → HasRow key (row ∷ rows) → HasRow key rows
-later_row key row rows lacks (zero, other, there, passes) =
-    let same : row ≡ other = cc in
-    let has : is_row_of key row ≡ true = ap (is_row_of key) same ∙ passes in
-    absurd (cc)
-later_row key row rows lacks (suc i, other, there, passes) = (i, other, there, passes)
+later_row key row rows lacks h4 = search arith
 
 -- one more row before rows whose value is known
 settled_more : (v : Option (List ℕ)) (key : List ℕ) (m : Map) (row : StoredRow) (rows : List StoredRow) → AllHave v key (row ∷ rows) → ((get m key ≡ v) ⊎ HasRow key (row ∷ rows))
     → ((n : Map) → ((get n key ≡ v) ⊎ HasRow key rows) → get (after_known n rows) key ≡ v) → get (after_known m (row ∷ rows)) key ≡ v
-settled_more v key m row rows all some rest = go (has_known_kind row) refl (bytes_eq row.key key) refl
+settled_more v key m row rows all some rest = go _ refl _ refl
   where
     further : is_row_of key row ≡ false → (n : Map) → get n key ≡ get m key → (get n key ≡ v) ⊎ HasRow key rows
     further lacks n same = elim some [
@@ -72,16 +68,13 @@ settled_more v key m row rows all some rest = go (has_known_kind row) refl (byte
 
     go : (known : Bool) → has_known_kind row ≡ known → (same : Bool) → bytes_eq row.key key ≡ same → get (after_known m (row ∷ rows)) key ≡ v
     go true known true same =
-        ap (λ (l : List StoredRow). get (map_after m (map command_of l)) key) (kept_first row rows known)
-        ∙ rest (changed m (command_of row)) (inl (set_by m row key same ∙ all 0 row refl (and_from _ _ known same)))
+        cc (kept_first row rows known, rest (changed m (command_of row)) (inl (set_by m row key same ∙ all 0 row refl (and_from _ _ known same))))
     go true known false other =
         let lacks : is_row_of key row ≡ false = rw (known, other) refl in
-        ap (λ (l : List StoredRow). get (map_after m (map command_of l)) key) (kept_first row rows known)
-        ∙ rest (changed m (command_of row)) (further lacks (changed m (command_of row)) (left_by m row key other))
+        cc (kept_first row rows known, rest (changed m (command_of row)) (further lacks (changed m (command_of row)) (left_by m row key other)))
     go false unknown same is =
         let lacks : is_row_of key row ≡ false = rw unknown refl in
-        ap (λ (l : List StoredRow). get (map_after m (map command_of l)) key) (dropped_first row rows unknown)
-        ∙ rest m (further lacks m refl)
+        cc (dropped_first row rows unknown, rest m (further lacks m refl))
 
 -- If all rows of a key have one value, and the map has it before or some row has the key, the map has it after the rows of known
 -- kinds.
@@ -104,26 +97,17 @@ pub record IsLast (rows : List StoredRow) (key : List ℕ) (last : ℕ) (row : S
 
 -- that of a longer list
 last_more : (first : StoredRow) (rows : List StoredRow) (key : List ℕ) (last : ℕ) (row : StoredRow) → IsLast rows key last row → IsLast (first ∷ rows) key (suc last) row
-last_more first rows key last row is = record { there = is.there; has_key = is.has_key; none = go }
-  where
-    go : (later : ℕ) (other : StoredRow) → suc last < later → slice_get (first ∷ rows) later ≡ Some other → bytes_eq other.key key ≡ false
-    go zero other above at = absurd (omega arith)
-    go (suc later) other above at = is.none later other (omega arith) at
+last_more first rows key last row is = search (arith, is.none)
 
 -- or the first row, if no other has the key
 last_first : (first : StoredRow) (rows : List StoredRow) (key : List ℕ) → bytes_eq first.key key ≡ true
     → ((i : ℕ) (other : StoredRow) → slice_get rows i ≡ Some other → bytes_eq other.key key ≡ false) → IsLast (first ∷ rows) key 0 first
-last_first first rows key has none = record { there = refl; has_key = has; none = go }
-  where
-    go : (later : ℕ) (other : StoredRow) → 0 < later → slice_get (first ∷ rows) later ≡ Some other → bytes_eq other.key key ≡ false
-    go zero other above at = absurd (omega arith)
-    go (suc later) other above at = none later other at
+last_first first rows key has none = search arith
 
 -- no row has the key, if the first has not and no other
 none_more : (first : StoredRow) (rows : List StoredRow) (key : List ℕ) → bytes_eq first.key key ≡ false → ((i : ℕ) (other : StoredRow) → slice_get rows i ≡ Some other → bytes_eq other.key key ≡ false)
     → (i : ℕ) (other : StoredRow) → slice_get (first ∷ rows) i ≡ Some other → bytes_eq other.key key ≡ false
-none_more first rows key has none zero other at = let same : first ≡ other = cc in ap (λ (r : StoredRow). bytes_eq r.key key) (sym same) ∙ has
-none_more first rows key has none (suc i) other at = none i other at
+none_more first rows key has none i other at = search arith
 
 -- a key has a last row, or none
 last_row : (key : List ℕ) (rows : List StoredRow) → ((last : ℕ) × (row : StoredRow) × IsLast rows key last row)
@@ -163,11 +147,7 @@ module _ (s : Shape) (rows : List StoredRow) (table : Slots) (is : IsTableOf s r
 
   due_within : (slot : ℕ) (row : StoredRow) → slice_get (converted_rows s table rows) slot ≡ Some row → slot < 4 * s.buckets
   unfolding converted_before converted_rows
-  due_within slot row there = omega (
-    arith,
-    slice_get_within (map (converted_row s table rows) (range_with_len 0 (4 * s.buckets))) slot row there,
-    length-map-range_with_len (converted_row s table rows) 0 (4 * s.buckets),
-  )
+  due_within slot row there = search (arith, slice_get_within, length-map-range_with_len)
 
   -- a row of a key that belongs in a slot is the log's row at a newest place
   due_newest : (key : List ℕ) (slot : ℕ) (row : StoredRow) → slice_get (converted_rows s table rows) slot ≡ Some row → is_row_of key row ≡ true
@@ -196,11 +176,7 @@ module _ (s : Shape) (rows : List StoredRow) (table : Slots) (is : IsTableOf s r
     λ later above below same.
         let inside : later < length rows = omega (arith, below, keys_count rows) in
         let there : slice_get rows later ≡ Some (get_or rows later empty) = slice_get-get_or rows later empty inside in
-        let is_key : row.key ≡ key = (bytes_eq-Decides row.key key).0 it.has_key in
-        let its : (get_or rows later empty).key ≡ key = sym (key_of_row rows later (get_or rows later empty) there) ∙ same ∙ key_of_row rows last row it.there ∙ is_key in
-        let passes : bytes_eq (get_or rows later empty).key key ≡ true = (bytes_eq-Decides (get_or rows later empty).key key).1 its in
-        let fails = it.none later (get_or rows later empty) above there in
-        absurd (cc),
+        search (arith, bytes_eq-Decides, key_of_row, it.none),
   )
 
   -- and belongs in some slot
@@ -219,8 +195,7 @@ module _ (s : Shape) (rows : List StoredRow) (table : Slots) (is : IsTableOf s r
   same_get : (m : Map) (key : List ℕ) → get (after_known m (converted_rows s table rows)) key ≡ get (map_after m (map command_of rows)) key
   same_get m key = elim (last_row key rows) [
     | inl (last, row, it) ↦
-        settled (value_given row) key m (converted_rows s table rows)
-        (λ slot other there passes.
+        settled (value_given row) key m (converted_rows s table rows) (λ slot other there passes.
         let found = due_newest key slot other there passes in
         let has = (bytes_eq-Decides other.key key).0 (and_parts (has_known_kind other) (bytes_eq other.key key) passes).1 in
         let same_keys : get_or (keys_of rows) found.0 [] ≡ get_or (keys_of rows) last [] =
@@ -228,18 +203,9 @@ module _ (s : Shape) (rows : List StoredRow) (table : Slots) (is : IsTableOf s r
         let place : found.0 ≡ last = newest_apart (keys_of rows) found.0 last found.1 (last_newest key last row it) same_keys in
         let both : Some other ≡ Some row = sym found.2 ∙ ap (slice_get rows) place ∙ it.there in
         let same : other ≡ row = cc in
-        ap value_given same)
-        (inr (last_due key last row it))
-        ∙ sym (decided key m rows last row it.there it.has_key it.none)
+        ap value_given same) (inr (last_due key last row it)) ∙ sym (decided key m rows last row it.there it.has_key it.none)
     | inr none ↦
-        settled (get m key) key m (converted_rows s table rows)
-        (λ slot other there passes.
-        let found = due_newest key slot other there passes in
-        let fails = none found.0 other found.2 in
-        let has = (and_parts (has_known_kind other) (bytes_eq other.key key) passes).1 in
-        absurd (cc))
-        (inl refl)
-        ∙ sym (untouched key m rows none)
+        settled (get m key) key m (converted_rows s table rows) (search (arith, due_newest, and_parts)) (inl refl) ∙ sym (untouched key m rows none)
   ]
 
 -- applied to any map, these rows and the log's rows give the same map

@@ -1,12 +1,11 @@
 -- The rows that a conversion writes have at most as many puts as the log's rows.
-use Rattle.std.proofs.Common.{◌≡◌, ◌≢◌, ℕ, zero, suc, ◌+◌, ◌*◌, ◌≤◌, ◌<◌, ◌==◌, eqb, nat_lt, true, false, cond, List, [], ◌∷◌, filter, length, map, take}
-use Rattle.std.proofs.Common.{get_or, Option, Some, None, inl, inr, option_map, refl, sym, ap, ◌∙◌, arith, is_some, take_all}
+use Rattle.std.proofs.Common.{◌≡◌, ◌≢◌, ℕ, zero, suc, ◌+◌, ◌*◌, ◌≤◌, ◌<◌, ◌==◌, nat_lt, false, cond, List, [], ◌∷◌, filter, length, map, take, get_or, Option, Some, None, inl, inr, refl}
+use Rattle.std.proofs.Common.{sym, ap, ◌∙◌, arith, take_all}
 use Rattle.std.specs.List.{range_with_len}
 use Rattle.std.proofs.lemmas.Bool.{cases_Bool, cases_eq, cases_lt, cond-false, cond-true, eqb-true, le-ltb, lt-ltb}
 use Rattle.std.proofs.lemmas.List.FromFn.{sum_by-map-range_with_len_more}
 use Rattle.std.proofs.lemmas.List.Sums.{sum_by-cons, sum_by_more}
 use Rattle.silt_cuckoo.specs.Slots.{Entry, entry_at, place_at}
-use Rattle.silt_frame.specs.Frame.{kind_of}
 use Rattle.silt_frame.specs.Rows.{put_count, keys_of, has_known_kind, StoredRow}
 use Rattle.silt_log_store.proofs.Entries.{entry_law}
 use Rattle.silt_conversion.specs.Conversion.{converted_before, converted_row, converted_rows, empty_row}
@@ -21,12 +20,7 @@ weight row = cond (row.kind == 1) 1 0
 
 -- a row of an unknown kind is no put
 unknown_weight : (row : StoredRow) → has_known_kind row ≡ false → weight row ≡ 0
-unknown_weight row unknown = elim (cases_Bool (eqb row.kind 1)) [
-  | inr other ↦ cond-false _ _ _ other
-  | inl put ↦
-      let known : has_known_kind row ≡ true = ap (λ n. is_some (kind_of n)) (eqb-true row.kind 1 put) in
-      absurd (cc)
-]
+unknown_weight row unknown = search (arith, cases_Bool, cond-false, eqb-true)
 
 -- so rows have the puts of those of known kinds
 pub known_charge : (rows : List StoredRow) → put_count (filter has_known_kind rows) ≡ put_count rows
@@ -36,8 +30,7 @@ known_charge (row ∷ rows) = elim (cases_Bool (has_known_kind row)) [
       let kept : filter has_known_kind (row ∷ rows) ≡ row ∷ filter has_known_kind rows = rw known refl in
       ap put_count kept ∙ sum_by-cons weight row (filter has_known_kind rows) ∙ ap (λ n. weight row + n) (known_charge rows) ∙ sym (sum_by-cons weight row rows)
   | inr unknown ↦
-      let dropped : filter has_known_kind (row ∷ rows) ≡ filter has_known_kind rows = rw unknown refl in
-      omega (arith, ap put_count dropped, known_charge rows, unknown_weight row unknown, sum_by-cons weight row rows)
+      search (arith, known_charge rows, unknown_weight, sum_by-cons)
 ]
 
 -- ---- sums over slots
@@ -62,9 +55,7 @@ slots_charge : (row : ℕ → StoredRow) (n : ℕ) → put_count (map row (range
 slots_charge row zero = refl
 slots_charge row (suc n) =
     let more : suc n ≡ n + 1 = omega arith in
-    ap (λ m. put_count (map row (range_with_len 0 m))) more
-    ∙ sum_by-map-range_with_len_more weight row 0 n n (omega arith)
-    ∙ ap (λ m. m + weight (row n)) (slots_charge row n)
+    cc (sum_by-map-range_with_len_more weight row 0 n n (omega arith), slots_charge row n)
 
 -- ---- slots with the places of rows
 
@@ -85,10 +76,7 @@ module _ (rows : List StoredRow) (d : StoredRow) where
 
   -- one row more, in another slot
   reach_other : (n place : ℕ) → place ≢ n → reach (n + 1) (Some place) ≡ reach n (Some place)
-  reach_other n place other = elim (cases_lt place n) [
-    | inl below ↦ reach_inside (n + 1) place (omega arith) ∙ sym (reach_inside n place below)
-    | inr past ↦ cond-false _ _ _ (le-ltb place (n + 1) (omega (arith, past, other))) ∙ sym (cond-false _ _ _ (le-ltb place n past))
-  ]
+  reach_other n place other = search (arith, cases_lt, reach_inside, cond-false, le-ltb)
 
   module _ (place_of : ℕ → Option ℕ) (once : (place slot other : ℕ) → place_of slot ≡ Some place → place_of other ≡ Some place → other ≡ slot) where
     -- the puts in the first slots with places of the first rows
@@ -96,11 +84,7 @@ module _ (rows : List StoredRow) (d : StoredRow) where
     reached n count = total (λ slot. reach n (place_of slot)) count
 
     same_reach : (n slot : ℕ) → place_of slot ≢ Some n → reach (n + 1) (place_of slot) ≡ reach n (place_of slot)
-    same_reach n slot other = go (place_of slot) refl
-      where
-        go : (e : Option ℕ) → place_of slot ≡ e → reach (n + 1) (place_of slot) ≡ reach n (place_of slot)
-        go None at = ap (reach (n + 1)) at ∙ ap (reach n) (sym at)
-        go (Some place) at = ap (reach (n + 1)) at ∙ reach_other n place (λ same. other (at ∙ ap Some same)) ∙ ap (reach n) (sym at)
+    same_reach n slot other = search (arith, reach_other)
 
     -- if no slot has the place of the next row, that row adds nothing
     nowhere : (n count : ℕ) → ((slot : ℕ) → slot < count → place_of slot ≢ Some n) → reached (n + 1) count ≡ reached n count
@@ -115,8 +99,7 @@ module _ (rows : List StoredRow) (d : StoredRow) where
       | inl here ↦
           let is : place_of count ≡ Some n = at ∙ ap Some here in
           let before : reached (n + 1) count ≡ reached n count = nowhere n count (λ slot below also. let same : slot ≡ count = once n count slot is also in absurd (omega (arith, same, below))) in
-          let added : reach (n + 1) (place_of count) ≡ weight (get_or rows n d) = ap (reach (n + 1)) is ∙ reach_inside (n + 1) n (omega arith) in
-          omega (arith, before, added)
+          search (arith, reach_inside)
     ]
 
     -- so it adds at most its own puts
@@ -126,7 +109,7 @@ module _ (rows : List StoredRow) (d : StoredRow) where
 
     -- the slots have no more puts than the rows whose places they have
     at_most : (n count : ℕ) → n ≤ length rows → reached n count ≤ put_count (take n rows)
-    at_most zero count most = omega (arith, total_zero (λ slot. reach 0 (place_of slot)) count (λ slot. reach_none (place_of slot)))
+    at_most zero count most = search (arith, total_zero, reach_none)
     at_most (suc n) count most =
         let more : suc n ≡ n + 1 = omega arith in
         let rest : put_count (take (n + 1) rows) ≡ put_count (take n rows) + weight (get_or rows n d) = sum_by_more weight rows n d (omega arith) in
@@ -147,11 +130,6 @@ converted_charge s rows table is =
     omega (arith, known_charge (map (converted_row s table rows) (range_with_len 0 slots)), due, most, all)
   where
     each : (slot : ℕ) (e : Option Entry) → entry_at table slot ≡ e → weight (converted_row s table rows slot) ≡ reach rows (empty_row s) (length rows) (place_at table slot)
-    each slot None at =
-        ap weight (row_of_none s rows table is slot at)
-        ∙ cond-false _ _ _ (ap (λ n. n == 1) (empty_kind s))
-        ∙ ap (λ (o : Option Entry). reach rows (empty_row s) (length rows) (option_map (λ (x : Entry). x.1) o)) (sym at)
+    each slot None at = cc (row_of_none s rows table is slot at, cond-false _ _ _ (ap (λ n. n == 1) (empty_kind s)))
     each slot (Some (tag, place)) at =
-        ap weight (row_of_entry s rows table is slot tag place at)
-        ∙ sym (reach_inside rows (empty_row s) (length rows) place (place_inside s rows table is slot tag place at))
-        ∙ ap (λ (o : Option Entry). reach rows (empty_row s) (length rows) (option_map (λ (x : Entry). x.1) o)) (sym at)
+        cc (row_of_entry s rows table is slot tag place at, reach_inside rows (empty_row s) (length rows) place (place_inside s rows table is slot tag place at))

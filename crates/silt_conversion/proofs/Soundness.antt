@@ -1,6 +1,6 @@
 -- The rows that a conversion writes are sound, and have the tags of the log's table.
-use Rattle.std.proofs.Common.{◌≡◌, ◌≢◌, ℕ, ◌+◌, ◌*◌, ◌/◌, ◌<◌, ◌==◌, eqb, true, false, ◌||◌, cond, List, [], length, map, take, get_or, slice_get, Option, Some}
-use Rattle.std.proofs.Common.{None, inl, inr, min, max, option_map, refl, sym, ap, ◌∙◌, arith, bytes_eq}
+use Rattle.std.proofs.Common.{◌≡◌, ◌≢◌, ℕ, ◌+◌, ◌*◌, ◌/◌, ◌<◌, ◌==◌, true, false, ◌||◌, cond, List, [], length, map, take, get_or, slice_get, Option, Some, None, inl, inr, option_map, refl}
+use Rattle.std.proofs.Common.{sym, ap, ◌∙◌, arith, bytes_eq}
 use Rattle.std.specs.List.{range_with_len}
 use Rattle.std.proofs.lemmas.Bool.{and_parts, cases_Bool, cases_eq, cond-false, cond-true, eq-eqb, ne_eqb}
 use Rattle.std.proofs.lemmas.List.{get_or-replicate}
@@ -32,20 +32,7 @@ empty_kind s = get_or-replicate (row_len s) 0 0 0 (omega arith)
 
 -- a pair of buckets, from the one in which a slot lies
 other_of : (at tag first second : ℕ) → pair_of at tag ≡ pair_of first second → ((at == first) || (at == second)) ≡ true × (tag ≡ cond (at == first) second first)
-other_of at tag first second same =
-    let low : min at tag ≡ min first second = ap (λ (p : ℕ × ℕ). p.0) same in
-    let high : max at tag ≡ max first second = ap (λ (p : ℕ × ℕ). p.1) same in
-    elim (cases_eq at first) [
-      | inl is_first ↦
-          let test : eqb at first ≡ true = eq-eqb at first is_first in
-          let tag_is : tag ≡ second = omega arith in
-          (rw test refl, tag_is ∙ sym (cond-true _ _ _ test))
-      | inr other ↦
-          let test : eqb at first ≡ false = ne_eqb at first other in
-          let is_second : at ≡ second = omega arith in
-          let tag_is : tag ≡ first = omega arith in
-          (rw (test, eq-eqb at second is_second) refl, tag_is ∙ sym (cond-false _ _ _ test))
-    ]
+other_of at tag first second same = search (arith, cases_eq, eq-eqb, cond-true, ne_eqb, cond-false)
 
 module _ (s : Shape) (rows : List StoredRow) (table : Slots) (is : IsTableOf s rows table) where
   abbrev blank : StoredRow
@@ -144,14 +131,11 @@ module _ (s : Shape) (rows : List StoredRow) (table : Slots) (is : IsTableOf s r
           let before : List StoredRow = map (converted_row s table rows) (range_with_len 0 slot) in
           let taken : take slot (map (converted_row s table rows) (range_with_len 0 (4 * s.buckets))) ≡ before =
           take-map-range_with_len (converted_row s table rows) 0 (4 * s.buckets) slot (omega arith) in
-          let alone : holds_key (converted_row s table rows slot).key before ≡ false = holds_none (converted_row s table rows slot).key before blank
-          (λ i low.
+          let alone : holds_key (converted_row s table rows slot).key before ≡ false = holds_none (converted_row s table rows slot).key before blank (λ i low.
           let under : i < slot = omega (arith, low, length-map-range_with_len (converted_row s table rows) 0 slot) in
-          ap (is_row_of (converted_row s table rows slot).key) (get_or-map-range_with_len (converted_row s table rows) 0 slot i i blank under (omega arith))
-          ∙ due_once slot tag place i at (λ same. absurd (omega arith))) in
-          sound_known s (map (converted_row s table rows) (range_with_len 0 (4 * s.buckets))) slot (converted_row s table rows slot)
-          (entry_known slot tag place at) ((entry_buckets slot tag place at).0)
-          (ap (holds_key (converted_row s table rows slot).key) taken ∙ alone)
+          cc (get_or-map-range_with_len (converted_row s table rows) 0 slot i i blank under (omega arith), due_once slot tag place i at (λ same. absurd (omega arith)))) in
+          sound_known s (map (converted_row s table rows) (range_with_len 0 (4 * s.buckets))) slot (converted_row s table rows slot) (entry_known slot tag place
+          at) ((entry_buckets slot tag place at).0) (ap (holds_key (converted_row s table rows slot).key) taken ∙ alone)
 
 -- there is no finding in the rows that belong in the slots
 pub converted_sound : ConvertedSoundLaw
@@ -159,8 +143,7 @@ unfolding hash_findings converted_before converted_rows
 converted_sound s rows table region is =
     let all : List StoredRow = map (converted_row s table rows) (range_with_len 0 (4 * s.buckets)) in
     let part : Part = record { region = region; rows = all } in
-    nothing_from s part 0 all
-    (λ slot row there.
+    nothing_from s part 0 all (λ slot row there.
     let below : slot < 4 * s.buckets = omega (arith, slice_get_within all slot row there, length-map-range_with_len (converted_row s table rows) 0 (4 * s.buckets)) in
     let here : slice_get all slot ≡ Some (converted_row s table rows slot) = slice_get-get_or all slot (empty_row s) (slice_get_within all slot row there)
     ∙ ap Some (get_or-map-range_with_len (converted_row s table rows) 0 (4 * s.buckets) slot slot (empty_row s) below (omega arith)) in

@@ -1,6 +1,6 @@
 -- The state after a step of a conversion, and the store of a finished conversion.
-use Rattle.std.proofs.Common.{◌≡◌, ◌≢◌, ℕ, ◌+◌, ◌*◌, ◌≤◌, ◌<◌, true, IsTrue, List, [], ◌∷◌, ◌++◌, filter, length, Option, Some, None, inl, inr, option_map}
-use Rattle.std.proofs.Common.{refl, sym, subst, ap, ◌∙◌, arith, length-set, get_or-set_other, get_or-set_same}
+use Rattle.std.proofs.Common.{◌≡◌, ◌≢◌, ℕ, ◌+◌, ◌*◌, ◌≤◌, ◌<◌, true, IsTrue, List, [], ◌∷◌, ◌++◌, filter, length, Option, Some, None, inl, inr, refl, sym, subst, ap, ◌∙◌, arith, length-set}
+use Rattle.std.proofs.Common.{get_or-set_other, get_or-set_same}
 use Rattle.std.proofs.lemmas.Bool.{cases_eq}
 use Rattle.std.proofs.lemmas.List.Elements.{filter-append}
 use Rattle.std.proofs.lemmas.List.FromFn.{map-range_with_len_more}
@@ -22,8 +22,7 @@ use Rattle.silt_log.proofs.Elsewhere.{row_of_all}
 use Rattle.silt_log_store.specs.State.{IsFrozenStore, IsIndexed, LogStoreState}
 use Rattle.silt_log_store.proofs.Elsewhere.{frozen_elsewhere, rows_outside}
 use Rattle.silt_log_store.proofs.Rows.{known_there}
-use Rattle.silt_conversion.specs.Conversion.{ConversionState, HasWritten, IsDigestOf, IsHeldConversion, Steps, converted_before, converted_row, converted_rows}
-use Rattle.silt_conversion.specs.Conversion.{empty_row, row_for, tag_of_entry, with_entry}
+use Rattle.silt_conversion.specs.Conversion.{ConversionState, HasWritten, IsDigestOf, IsHeldConversion, Steps, converted_before, converted_row, converted_rows, tag_of_entry, with_entry}
 use Rattle.silt_conversion.specs.Laws.{IsTableOf}
 use Rattle.silt_conversion.specs.declared.conversion.Conversion.TheInside.{Inside}
 use Rattle.silt_hash_store.specs.State.{IsHashStore}
@@ -35,8 +34,7 @@ use Rattle.silt_conversion.proofs.Soundness.{converted_sound, converted_tag}
 -- the row of an entry of a log
 pub due_is : (content : Content) (log : LogStoreState) (slot tag place : ℕ) → entry_at log.table slot ≡ Some (tag, place) → place < log.log.used
     → row_at log.log.shape log.log.region content.shown place ≡ converted_row log.log.shape log.table (all_rows content log.log) slot
-due_is content log slot tag place at below =
-    sym (ap (λ (e : Option Entry). row_for log.log.shape (all_rows content log.log) (option_map (λ (x : Entry). x.1) e)) at ∙ row_of_all content log.log place (empty_row log.log.shape) below)
+due_is content log slot tag place at below = search (arith, row_of_all)
 
 -- and it is of a known kind
 pub due_known : (content : Content) (log : LogStoreState) (place : ℕ) → IsIndexed content log → IsTrue content.honest → place < log.log.used
@@ -50,29 +48,23 @@ due_more : (s : Shape) (table : Slots) (rows : List StoredRow) (n : ℕ)
 unfolding converted_before
 due_more s table rows n =
     let before : List StoredRow = converted_before s table rows n in
-    ap (λ (l : List StoredRow). put_count (filter has_known_kind l)) (map-range_with_len_more (converted_row s table rows) 0 n n (omega arith))
-    ∙ ap put_count (filter-append has_known_kind before (converted_row s table rows n ∷ []))
-    ∙ count_law (filter has_known_kind before) (filter has_known_kind (converted_row s table rows n ∷ []))
+    cc (
+      map-range_with_len_more (converted_row s table rows) 0 n n (omega arith),
+      filter-append has_known_kind before (converted_row s table rows n ∷ []),
+      count_law (filter has_known_kind before) (filter has_known_kind (converted_row s table rows n ∷ [])),
+    )
 
 -- the bytes of one more slot
 bytes_more : (s : Shape) (table : Slots) (rows : List StoredRow) (n : ℕ)
     → rows_bytes (converted_before s table rows (n + 1)) ≡ rows_bytes (converted_before s table rows n) ++ row_bytes (converted_row s table rows n)
 unfolding converted_before
-bytes_more s table rows n =
-    ap rows_bytes (map-range_with_len_more (converted_row s table rows) 0 n n (omega arith))
-    ∙ rows_bytes_more (converted_before s table rows n) (converted_row s table rows n)
+bytes_more s table rows n = ap rows_bytes (map-range_with_len_more (converted_row s table rows) 0 n n (omega arith)) ∙ rows_bytes_more _ _
 
 -- a conversion with no slot written
 pub none_written : (content : Content) (log : LogStoreState) (conversion : ConversionState) → conversion.shape ≡ log.log.shape
     → conversion.next ≡ 0 → conversion.puts ≡ 0 → Holds conversion.hasher [] → HasWritten content log conversion
 unfolding converted_before
-none_written content log conversion same next puts unfed = record {
-  shape = same;
-  due = λ honest slot below. absurd (omega (arith, next));
-  tagged = λ slot below. absurd (omega (arith, next));
-  charged = λ honest. puts ∙ ap (λ n. put_count (filter has_known_kind (converted_before conversion.shape log.table (all_rows content log.log) n))) (sym next);
-  hashed = λ honest. subst (λ n. Holds conversion.hasher (rows_bytes (converted_before conversion.shape log.table (all_rows content log.log) n))) (sym next) unfed;
-}
+none_written content log conversion same next puts unfed = search arith
 
 -- ---- tags
 
@@ -88,23 +80,13 @@ entry_here tags slot (Some entry) below none = get_or-set_same tags slot (Some e
 
 -- and another slot has its own
 pub entry_elsewhere : (tags : List (Option ℕ)) (slot other : ℕ) (entry : Option Entry) → other ≢ slot → slot_tag (with_entry tags slot entry) other ≡ slot_tag tags other
-entry_elsewhere tags slot other None apart = refl
-entry_elsewhere tags slot other (Some entry) apart = get_or-set_other tags slot other (Some entry.0) None apart
+entry_elsewhere tags slot other entry apart = search (arith, get_or-set_other)
 
 -- a conversion with one more slot, and at most one more put
 pub held_as : (conversion : ConversionState) (tags : List (Option ℕ)) (len puts : ℕ) (hasher : Sha1) (entry : Option Entry)
     → IsHeldConversion conversion len → conversion.next < 4 * conversion.shape.buckets → puts ≤ 1 → tags ≡ with_entry conversion.tags conversion.next entry
     → IsHeldConversion (record conversion { next = conversion.next + 1; tags = tags; puts = conversion.puts + puts; hasher = hasher }) len
-held_as conversion tags len puts hasher entry held below few same = record {
-  there = held.there;
-  long = ap length same ∙ entry_long conversion.tags conversion.next entry ∙ held.long;
-  most = omega (arith, below);
-  counted = omega (arith, held.counted, few);
-  later = λ slot past.
-      ap (λ (t : List (Option ℕ)). slot_tag t slot) same
-      ∙ entry_elsewhere conversion.tags conversion.next slot entry (λ here. absurd (omega arith)) ∙ held.later slot (omega arith);
-  buffer = held.buffer;
-}
+held_as conversion tags len puts hasher entry held below few same = search (arith, entry_long, entry_elsewhere, held.later)
 
 -- the conversion of these fields
 abbrev pub conversion_of : Inside → ConversionState
@@ -118,27 +100,12 @@ pub written_same : (old new : Content) (log : LogStoreState) (conversion : Conve
     → (IsTrue old.honest → (slot : ℕ) → slot < conversion.next
     → slot_row conversion.shape conversion.region new.shown slot ≡ slot_row conversion.shape conversion.region old.shown slot)
     → HasWritten old log conversion → HasWritten new log conversion
-written_same old new log conversion same rows slots is = record {
-  shape = is.shape;
-  due = λ honest slot low.
-      slots (was honest) slot low ∙ is.due (was honest) slot low
-      ∙ ap (λ (r : List StoredRow). converted_row conversion.shape log.table r slot) (sym (rows (was honest)));
-  tagged = is.tagged;
-  charged = λ honest. is.charged (was honest) ∙ ap (λ (r : List StoredRow). put_count (filter has_known_kind (before r))) (sym (rows (was honest)));
-  hashed = λ honest. subst (λ (r : List StoredRow). Holds conversion.hasher (rows_bytes (before r))) (sym (rows (was honest))) (is.hashed (was honest));
-}
-  where
-    was : IsTrue new.honest → IsTrue old.honest
-    was honest = sym same ∙ honest
-
-    before : List StoredRow → List StoredRow
-    before rows = converted_before conversion.shape log.table rows conversion.next
+written_same old new log conversion same rows slots is = search (arith, is.due, is.charged, is.hashed)
 
 module _ (old new : Content) (log : LogStoreState) (conversion : ConversionState) (bounds : InBounds log.log) (same : conversion.shape ≡ log.log.shape)
     (fits : device_size conversion.shape ≤ size old) (changes : ChangesWithin (hash_slot_at conversion.shape conversion.region conversion.next) (row_len conversion.shape) old new) where
   outside : LiesOutside (commits_at log.log.shape log.log.region) (log_len log.log.shape) (hash_slot_at conversion.shape conversion.region conversion.next) (row_len conversion.shape)
-  outside = subst (λ (s : Shape). LiesOutside (commits_at s log.log.region) (log_len s) (hash_slot_at conversion.shape conversion.region conversion.next) (row_len conversion.shape)) same
-      (behind_logs conversion.shape log.log.region conversion.region conversion.next (subst (λ (s : Shape). log.log.region < s.logs) (sym same) bounds.region))
+  outside = search (arith, behind_logs)
 
   log_fits : device_size log.log.shape ≤ size old
   log_fits = subst (λ (s : Shape). device_size s ≤ size old) same fits
@@ -153,10 +120,9 @@ module _ (old new : Content) (log : LogStoreState) (conversion : ConversionState
 
   -- the slots before show what they showed
   pub written_kept : conversion.region < conversion.shape.hashes → conversion.next < 4 * conversion.shape.buckets → HasWritten old log conversion → HasWritten new log conversion
-  written_kept there below = written_same old new log conversion changes.honest rows_kept (λ was slot low.
-      slot_elsewhere conversion.shape conversion.region conversion.next slot old.shown new.shown
-      (omega (arith, slots_inside conversion.shape conversion.region there, fits)) below (omega (arith, low, below)) (λ at. absurd (omega arith))
-      (changes.shown was))
+  written_kept there below = written_same old new log conversion changes.honest rows_kept (λ was slot low. slot_elsewhere conversion.shape conversion.region
+      conversion.next slot old.shown new.shown (omega (arith, slots_inside conversion.shape conversion.region there, fits)) below (omega (arith, low, below)) (λ at.
+      absurd (omega arith)) (changes.shown was))
 
   -- and the next one its row
   pub written_step : (after : ConversionState) → conversion.region < conversion.shape.hashes → conversion.next < 4 * conversion.shape.buckets → length conversion.tags ≡ 4 * conversion.shape.buckets
@@ -166,31 +132,28 @@ module _ (old new : Content) (log : LogStoreState) (conversion : ConversionState
       let was : IsTrue new.honest → IsTrue old.honest = λ honest. sym changes.honest ∙ honest in
       let due : IsTrue new.honest → due_in old ≡ due_in new = λ honest.
       ap (λ (rows : List StoredRow). converted_row conversion.shape log.table rows conversion.next) (sym (rows_kept (was honest))) in
-      subst (λ (a : ConversionState). HasWritten new log a) (sym steps.next) (record {
+      rw steps.next
+      (record {
         shape = is.shape;
         due = λ honest slot low. elim (cases_eq slot conversion.next) [
-          | inl here ↦
-              ap (slot_row conversion.shape conversion.region new.shown) here ∙ steps.shows (was honest) frozen ∙ due honest
-              ∙ ap (converted_row conversion.shape log.table (all_rows new log.log)) (sym here)
-          | inr other ↦ kept.due honest slot (omega arith)
+          | inl here ↦ ap (slot_row conversion.shape conversion.region new.shown) here ∙ steps.shows
+              (was honest) frozen ∙ due honest ∙ ap (converted_row conversion.shape log.table (all_rows new log.log)) (sym here)
+          | inr other ↦ kept.due honest slot (omega
+              arith)
         ];
         tagged = λ slot low. elim (cases_eq slot conversion.next) [
-          | inl here ↦ ap (slot_tag (with_entry conversion.tags conversion.next (entry_at log.table conversion.next))) here
-              ∙ entry_here conversion.tags conversion.next (entry_at log.table conversion.next) (omega (arith, below, long)) none
-              ∙ ap (λ n. tag_of_entry (entry_at log.table n)) (sym here)
-          | inr other ↦ entry_elsewhere conversion.tags conversion.next slot (entry_at log.table conversion.next) other ∙ is.tagged slot (omega arith)
+          | inl here ↦ ap (slot_tag (with_entry conversion.tags conversion.next (entry_at log.table
+              conversion.next))) here ∙ entry_here conversion.tags conversion.next (entry_at log.table conversion.next) (omega (arith, below, long)) none ∙ ap (λ n.
+              tag_of_entry (entry_at log.table n)) (sym here)
+          | inr other ↦ entry_elsewhere conversion.tags conversion.next slot (entry_at log.table conversion.next) other
+              ∙ is.tagged slot (omega arith)
         ];
-        charged = λ honest.
-            steps.added (was honest) frozen
-            ∙ ap (λ (row : StoredRow). conversion.puts + put_count (filter has_known_kind (row ∷ []))) (due honest)
-            ∙ ap (λ n. n + put_count (filter has_known_kind (due_in new ∷ []))) (kept.charged honest)
-            ∙ sym (due_more conversion.shape log.table (all_rows new log.log) conversion.next);
-        hashed = λ honest.
-            let before : List ℕ = rows_bytes (converted_before conversion.shape log.table (all_rows new log.log) conversion.next) in
-            subst (λ (l : List ℕ). Holds after.hasher l)
-            (ap (λ (row : StoredRow). before ++ row_bytes row) (due honest)
-            ∙ sym (bytes_more conversion.shape log.table (all_rows new log.log) conversion.next))
-            (steps.fed (was honest) frozen before (kept.hashed honest));
+        charged = λ honest. steps.added (was honest) frozen ∙ ap (λ (row : StoredRow). conversion.puts + put_count (filter has_known_kind (row ∷ []))) (due honest) ∙
+            ap (λ n. n + put_count (filter has_known_kind (due_in new ∷ []))) (kept.charged honest) ∙ sym (due_more conversion.shape log.table (all_rows new log.log)
+            conversion.next);
+        hashed = λ honest. let before : List ℕ = rows_bytes (converted_before conversion.shape log.table (all_rows new log.log) conversion.next) in subst (λ (l : List
+            ℕ). Holds after.hasher l) (ap (λ (row : StoredRow). before ++ row_bytes row) (due honest) ∙ sym (bytes_more conversion.shape log.table (all_rows new log.log)
+            conversion.next)) (steps.fed (was honest) frozen before (kept.hashed honest));
       })
     where
       due_in : Content → StoredRow
@@ -203,12 +166,7 @@ pub step_made : (log : LogStoreState) (old new : Content) (before : ConversionSt
     → (IsTrue old.honest → slot_row before.shape before.region new.shown before.next ≡ row_of written) → written ≡ row
     → ((bytes : List ℕ) → Holds before.hasher bytes → Holds hasher (bytes ++ fed)) → fed ≡ row → head_len ≤ length row
     → Steps log old new before (record before { next = before.next + 1; tags = tags; puts = before.puts + puts; hasher = hasher })
-step_made log old new before tags puts hasher row written fed is_tags due is_puts shows is_written feeds is_fed long = record {
-  next = ap (λ (t : List (Option ℕ)). let made : ConversionState = record before { next = before.next + 1; tags = t; puts = before.puts + puts; hasher = hasher } in made) is_tags;
-  shows = λ honest frozen. shows honest ∙ ap row_of is_written ∙ due honest frozen;
-  added = λ honest frozen. ap (λ n. before.puts + n) (is_puts ∙ ap (λ (r : StoredRow). put_count (filter has_known_kind (r ∷ []))) (due honest frozen));
-  fed = λ honest frozen bytes holds. subst (λ (l : List ℕ). Holds hasher (bytes ++ l)) (is_fed ∙ sym (row_bytes_of row long) ∙ ap row_bytes (due honest frozen)) (feeds bytes holds);
-}
+step_made log old new before tags puts hasher row written fed is_tags due is_puts shows is_written feeds is_fed long = search (arith, row_bytes_of)
 
 -- ---- all slots
 
@@ -216,28 +174,20 @@ step_made log old new before tags puts hasher row written fed is_tags due is_put
 pub all_due : (content : Content) (log : LogStoreState) (conversion : ConversionState) → conversion.next ≡ 4 * conversion.shape.buckets → HasWritten content log conversion → IsTrue content.honest
     → hash_rows conversion.shape conversion.region content.shown ≡ converted_rows conversion.shape log.table (all_rows content log.log)
 unfolding rows_before converted_before converted_rows
-all_due content log conversion done is honest =
-    all_before conversion.shape conversion.region content.shown
-    ∙ map_range_same (slot_row conversion.shape conversion.region content.shown) (converted_row conversion.shape log.table (all_rows content log.log)) 0 (4 * conversion.shape.buckets)
-    (λ slot low high. is.due honest slot (omega arith))
+all_due content log conversion done is honest = search (arith, all_before, map_range_same, is.due)
 
 -- and its puts are those of all these rows
 pub all_charged : (content : Content) (log : LogStoreState) (conversion : ConversionState) → conversion.next ≡ 4 * conversion.shape.buckets → HasWritten content log conversion → IsTrue content.honest
     → conversion.puts ≡ put_count (filter has_known_kind (converted_rows conversion.shape log.table (all_rows content log.log)))
 unfolding converted_rows
-all_charged content log conversion done is honest =
-    is.charged honest ∙ ap (λ n. put_count (filter has_known_kind (converted_before conversion.shape log.table (all_rows content log.log) n))) done
+all_charged content log conversion done is honest = search (arith, is.charged)
 
 -- and its digest is that of the slots' bytes
 pub all_digested : (content : Content) (log : LogStoreState) (conversion : ConversionState) (digest : List ℕ)
     → conversion.next ≡ 4 * conversion.shape.buckets → HasWritten content log conversion → IsTrue content.honest
     → IsDigestOf conversion.hasher digest → digest ≡ sha1 (rows_bytes (hash_rows conversion.shape conversion.region content.shown))
 unfolding converted_rows
-all_digested content log conversion digest done is honest finalizes =
-    let due : List StoredRow = converted_before conversion.shape log.table (all_rows content log.log) conversion.next in
-    finalizes (rows_bytes due) (is.hashed honest)
-    ∙ ap (λ n. sha1 (rows_bytes (converted_before conversion.shape log.table (all_rows content log.log) n))) done
-    ∙ ap (λ (rows : List StoredRow). sha1 (rows_bytes rows)) (sym (all_due content log conversion done is honest))
+all_digested content log conversion digest done is honest finalizes = search (arith, all_due, is.hashed)
 
 -- the table of a log that is only read is that of its rows
 pub table_of : (content : Content) (log : LogStoreState) → IsBucketCount log.log.shape.buckets → IsFrozenStore content log
@@ -252,8 +202,7 @@ store_stands content log conversion digest count done finalizes frozen is = reco
   sound = λ honest.
       ap (λ (rows : List StoredRow). hash_findings conversion.shape (record { region = conversion.region; rows = rows })) (all_due content log conversion done is honest)
       ∙ converted_sound conversion.shape (all_rows content log.log) log.table conversion.region (its_table honest);
-  tagged = λ honest slot below.
-      is.tagged slot (omega (arith, below, done))
+  tagged = λ honest slot below. is.tagged slot (omega (arith, below, done))
       ∙ sym (converted_tag conversion.shape (all_rows content log.log) log.table (its_table honest) slot)
       ∙ ap (tag_of conversion.shape.buckets slot) (sym (is.due honest slot (omega (arith, below, done))));
   counted = λ honest. all_charged content log conversion done is honest ∙ ap (λ (rows : List StoredRow). put_count (filter has_known_kind rows)) (sym (all_due content log conversion done is honest));
