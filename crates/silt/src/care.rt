@@ -195,7 +195,7 @@ impl<H: Wait + StandardStreams, V: View> Finds for Patience<'_, '_, '_, '_, H, V
     }
 }
 
-impl<H: Wait + StandardStreams> Cares for Care<'_, '_, '_, H> {
+impl<H: Wait + Sync + StandardStreams> Cares for Care<'_, '_, '_, H> {
     fn care<V: View>(&self, views: &[V]) {
         if self.hours.is_none() && self.page.is_none() && !self.backups.are_written() {
             return;

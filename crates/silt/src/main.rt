@@ -97,6 +97,7 @@ fn done<
         + Net<Listener = TcpListener, Stream = TcpStream>
         + Threads
         + Wait
+        + Sync
         + StandardStreams,
     E: Write + Drop,
 >(rt: &S, errors: E, at_once: Stderr) -> ExitCode {

@@ -25,7 +25,7 @@ use std::thread::Threads;
 
 impl<H, S> Machine<'_, H, S>
 where
-    H: Net<Listener = TcpListener, Stream = TcpStream> + Threads + Wait + StandardStreams,
+    H: Net<Listener = TcpListener, Stream = TcpStream> + Threads + Wait + Sync + StandardStreams,
     S: DiskSources,
     S::Disk: Tended + Watched,
 {

@@ -34,7 +34,7 @@ const CLIENTS: u32 = 64;
 /// opened, the network fails, the store has failed, or a merge was refused.
 pub fn serve_file<
     S: DiskSource,
-    H: Net<Listener = TcpListener, Stream = TcpStream> + Threads + Wait + StandardStreams,
+    H: Net<Listener = TcpListener, Stream = TcpStream> + Threads + Wait + Sync + StandardStreams,
     W: Write,
     T: Tells,
 >(
@@ -60,7 +60,7 @@ where
 // may be long: so a port that is in use is told of at once. Returns the disk, and how the job ended.
 fn serve_disk<
     S: DiskSource,
-    H: Net<Listener = TcpListener, Stream = TcpStream> + Threads + Wait + StandardStreams,
+    H: Net<Listener = TcpListener, Stream = TcpStream> + Threads + Wait + Sync + StandardStreams,
     W: Write,
     T: Tells,
 >(
@@ -109,7 +109,7 @@ pub fn entrance_of<H: Net<Listener = TcpListener, Stream = TcpStream> + Standard
 fn serve_opened<
     E: Drop,
     D: Watched,
-    H: Net<Listener = TcpListener, Stream = TcpStream> + Threads + Wait + StandardStreams,
+    H: Net<Listener = TcpListener, Stream = TcpStream> + Threads + Wait + Sync + StandardStreams,
     W: Write,
 >(
     rt: &H,
@@ -154,7 +154,7 @@ pub fn are_short(value_len: u32, resp: bool) -> bool
 fn serve_store<
     E: Drop,
     D: Viewed,
-    H: Net<Listener = TcpListener, Stream = TcpStream> + Threads + Wait + StandardStreams,
+    H: Net<Listener = TcpListener, Stream = TcpStream> + Threads + Wait + Sync + StandardStreams,
     W: Write,
 >(
     rt: &H,

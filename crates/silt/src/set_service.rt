@@ -33,7 +33,7 @@ use std::thread::Threads;
 /// not the shard that is due, the network fails, a store has failed, or a merge was refused. A set has no record of its calls.
 pub fn serve_set<
     S: DiskSources,
-    H: Net<Listener = TcpListener, Stream = TcpStream> + Threads + Wait + StandardStreams,
+    H: Net<Listener = TcpListener, Stream = TcpStream> + Threads + Wait + Sync + StandardStreams,
     W: Write,
     T: Tells,
 >(
@@ -66,7 +66,7 @@ where
 // Serves the set on these disks to the connections of a port. It binds the port before the opening, which may be long.
 fn serve_disks<
     S: DiskSources,
-    H: Net<Listener = TcpListener, Stream = TcpStream> + Threads + Wait + StandardStreams,
+    H: Net<Listener = TcpListener, Stream = TcpStream> + Threads + Wait + Sync + StandardStreams,
     W: Write,
     T: Tells,
 >(
@@ -123,7 +123,7 @@ fn refuse_shard<E: Drop, D: Disk, W: Write>(
 fn serve_shards<
     E: Drop,
     D: Watched,
-    H: Net<Listener = TcpListener, Stream = TcpStream> + Threads + Wait + StandardStreams,
+    H: Net<Listener = TcpListener, Stream = TcpStream> + Threads + Wait + Sync + StandardStreams,
     W: Write,
 >(
     rt: &H,
@@ -160,7 +160,7 @@ fn serve_shards<
 fn serve_entered<
     E: Drop,
     D: Watched,
-    H: Net<Listener = TcpListener, Stream = TcpStream> + Threads + Wait + StandardStreams,
+    H: Net<Listener = TcpListener, Stream = TcpStream> + Threads + Wait + Sync + StandardStreams,
     W: Write,
 >(
     rt: &H,

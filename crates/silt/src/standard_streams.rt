@@ -91,7 +91,7 @@ pub fn not_its_link() -> io::Error {
 }
 
 /// A program with standard streams, and with files beside those of its stores. It has memory and a clock, and its threads share it.
-pub trait StandardStreams: AllocGlobal + Clock + Sync {
+pub trait StandardStreams: AllocGlobal + Clock {
     /// The system reported that these streams are the file of this path, and no others.
     ghost are_file: { Self → List ℕ → SameStreamsOf → Type 0 };
 
