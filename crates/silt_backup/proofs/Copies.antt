@@ -4,6 +4,8 @@ use Rattle.std.proofs.Common.{slice_range, flat_map, Some, inl, inr, refl, sym, 
 use Rattle.std.proofs.Common.{take-append-drop}
 use Rattle.std.specs.List.{prefix_len, range_with_len}
 use Rattle.sha1.specs.Sha1.{sha1}
+use Rattle.std.proofs.Math.Nat.{mul-le-mul_right}
+use Rattle.std.proofs.lemmas.Bool.{cases_Bool}
 use Rattle.std.proofs.lemmas.Bool.Decides.{not_from_Decides}
 use Rattle.std.proofs.lemmas.List.{drop-take}
 use Rattle.std.proofs.lemmas.List.Edits.{length-between}
@@ -114,6 +116,19 @@ module _ (dec : List ℕ → StoredRow) (enc : StoredRow → List ℕ) (len : �
       ap (λ (l : List ℕ). dec l ∷ map (λ p. dec (f p)) (range_with_len (from + 1) n)) piece
       ∙ ap (λ (rows : List StoredRow). dec (g from) ∷ rows) (rows_equal f g (from + 1) n short later rests)
 
+  -- the rows of a range
+  abbrev rows_in : ℕ → ℕ → List ℕ → List StoredRow
+  rows_in base n x = map (λ p. dec (slice_range x (base + p * len) (base + p * len + len))) (range_with_len 0 n)
+
+  -- equal bytes of them are equal rows, if the range lies within the second image
+  pub range_equal : (base n : ℕ) (x y : List ℕ) → base + n * len ≤ length y → flat_map enc (rows_in base n x) ≡ flat_map enc (rows_in base n y) → rows_in base n x ≡ rows_in base n y
+  range_equal base n x y fits same =
+      rows_equal (λ p. slice_range x (base + p * len) (base + p * len + len)) (λ p. slice_range y (base + p * len) (base + p * len + len)) 0 n
+      (λ p. omega (arith, length-take (base + p * len + len - (base + p * len)) (drop (base + p * len) x)))
+      (λ p low high.
+      let inside : base + p * len + len ≤ base + n * len = body_before base len p n (omega (arith, high)) in
+      length-between y (base + p * len) (base + p * len + len) (omega (arith, inside, fits)) ∙ omega arith) same
+
 -- the bytes of a row from some bytes are these, but for none
 row_back : (b : List ℕ) → 21 ≤ length (row_bytes (row_of b)) → row_bytes (row_of b) ≡ b
 row_back [] long = absurd (omega (arith, long))
@@ -129,11 +144,10 @@ row_most len (kind ∷ rest) least short =
 
 -- two byte strings of one digest are equal, or they are a collision
 same_or_collide : (a b : List ℕ) → sha1 a ≡ sha1 b → (a ≡ b) ⊎ Collision
-same_or_collide a b same = go (bytes_eq a b) refl
-  where
-    go : (r : Bool) → bytes_eq a b ≡ r → (a ≡ b) ⊎ Collision
-    go true is = inl ((bytes_eq-Decides a b).0 is)
-    go false is = inr (a, b, not_from_Decides (bytes_eq a b) (bytes_eq-Decides a b) is, same)
+same_or_collide a b same = elim (cases_Bool (bytes_eq a b)) [
+  | inl is ↦ inl ((bytes_eq-Decides a b).0 is)
+  | inr is ↦ inr (a, b, not_from_Decides (bytes_eq a b) (bytes_eq-Decides a b) is, same)
+]
 
 -- the end of a region, over plain numbers
 module _ (logs hashes log_len hash_len sorted_len : ℕ) where
@@ -148,22 +162,12 @@ hash_equal : (s : Shape) (region : ℕ) (x y : List ℕ) → device_size s ≤ l
     → (hash_rows s region x ≡ hash_rows s region y) ⊎ Collision
 unfolding hash_rows
 hash_equal s region x y fits there same =
-    let at : ℕ = hash_at s region in
-    let len : ℕ = row_len s in
-    let n : ℕ = 4 * s.buckets in
-    let f : ℕ → List ℕ = λ p. slice_range x (at + p * len) (at + p * len + len) in
-    let g : ℕ → List ℕ = λ p. slice_range y (at + p * len) (at + p * len + len) in
-    let end : at + hash_size s ≤ device_size s = hash_end s.logs s.hashes (log_size s) (hash_size s) (sorted_size s) region there in
-    let slots : at + n * len ≤ at + hash_size s = omega (arith, up_least (4 * s.buckets * row_len s)) in
-    let short : (p : ℕ) → length (f p) ≤ len = λ p. omega (arith, length-take (at + p * len + len - (at + p * len)) (drop (at + p * len) x)) in
-    let long : (p : ℕ) → 0 ≤ p → p < 0 + n → length (g p) ≡ len =
-    λ p low high.
-    let inside : at + p * len + len ≤ at + n * len = body_before at len p n (omega (arith, high)) in
-    length-between y (at + p * len) (at + p * len + len) (omega (arith, inside, slots, end, fits)) ∙ omega arith in
-    elim (same_or_collide (rows_bytes (map (λ p. row_of (f p)) (range_with_len 0 n))) (rows_bytes (map (λ p. row_of (g p)) (range_with_len 0 n))) same) [
+    let end : hash_at s region + hash_size s ≤ device_size s = hash_end s.logs s.hashes (log_size s) (hash_size s) (sorted_size s) region there in
+    let slots : hash_at s region + 4 * s.buckets * row_len s ≤ hash_at s region + hash_size s = omega (arith, up_least (4 * s.buckets * row_len s)) in
+    elim (same_or_collide (rows_bytes (hash_rows s region x)) (rows_bytes (hash_rows s region y)) same) [
       | inl is ↦
-          inl (rows_equal row_of row_bytes len (λ b below. row_most len b (omega arith) below) (λ b is. row_back b (omega (arith, is)))
-          (λ b is. row_bytes_of b (omega (arith, is))) f g 0 n short long is)
+          inl (range_equal row_of row_bytes (row_len s) (λ b below. row_most (row_len s) b (omega arith) below) (λ b is. row_back b (omega (arith, is)))
+          (λ b is. row_bytes_of b (omega (arith, is))) (hash_at s region) (4 * s.buckets) x y (omega (arith, slots, end, fits)) is)
       | inr collision ↦ inr collision
     ]
 
@@ -190,19 +194,12 @@ pub entries_equal : (s : Shape) (region count : ℕ) (x y : List ℕ) → device
     → (sorted_rows s region count x ≡ sorted_rows s region count y) ⊎ Collision
 unfolding sorted_rows
 entries_equal s region count x y fits there room same =
-    let at : ℕ = sorted_at s region in
-    let len : ℕ = entry_len s in
-    let f : ℕ → List ℕ = λ p. slice_range x (at + p * len) (at + p * len + len) in
-    let g : ℕ → List ℕ = λ p. slice_range y (at + p * len) (at + p * len + len) in
-    let end : at + sorted_size s ≤ device_size s = sorted_end s.logs s.hashes (log_size s) (hash_size s) (sorted_size s) region there in
-    let entries : at + s.sorted_capacity * len ≤ at + sorted_size s = omega (arith, up_least (s.sorted_capacity * entry_len s)) in
-    let short : (p : ℕ) → length (f p) ≤ len = λ p. omega (arith, length-take (at + p * len + len - (at + p * len)) (drop (at + p * len) x)) in
-    let long : (p : ℕ) → 0 ≤ p → p < 0 + count → length (g p) ≡ len =
-    λ p low high.
-    let inside : at + p * len + len ≤ at + s.sorted_capacity * len = body_before at len p s.sorted_capacity (omega (arith, room, high)) in
-    length-between y (at + p * len) (at + p * len + len) (omega (arith, inside, entries, end, fits)) ∙ omega arith in
-    elim (same_or_collide (entries_bytes (map (λ p. entry_row (f p)) (range_with_len 0 count))) (entries_bytes (map (λ p. entry_row (g p)) (range_with_len 0 count))) same) [
+    let end : sorted_at s region + sorted_size s ≤ device_size s = sorted_end s.logs s.hashes (log_size s) (hash_size s) (sorted_size s) region there in
+    let entries : sorted_at s region + s.sorted_capacity * entry_len s ≤ sorted_at s region + sorted_size s = omega (arith, up_least (s.sorted_capacity * entry_len s)) in
+    let few : count * entry_len s ≤ s.sorted_capacity * entry_len s = mul-le-mul_right (entry_len s) room in
+    elim (same_or_collide (entries_bytes (sorted_rows s region count x)) (entries_bytes (sorted_rows s region count y)) same) [
       | inl is ↦
-          inl (rows_equal entry_row put_bytes len (λ b below. omega (arith, below, ap length (put_bytes_of b))) (λ b is. put_bytes_of b) (λ b is. put_bytes_of b) f g 0 count short long is)
+          inl (range_equal entry_row put_bytes (entry_len s) (λ b below. omega (arith, below, ap length (put_bytes_of b))) (λ b is. put_bytes_of b) (λ b is. put_bytes_of b)
+          (sorted_at s region) count x y (omega (arith, few, entries, end, fits)) is)
       | inr collision ↦ inr collision
     ]
