@@ -13,5 +13,4 @@ pub taken_more : {S G : Type 0} (looks : LooksOf S G) (at : ℕ) (first mid last
     → looks.gave mid (at + done) piece last → length piece ≡ count → ((taken : List ℕ) → HasTaken old taken → HasTaken new (taken ++ piece))
     → AreTaken looks at first last (done + count) new
 taken_more looks at first mid last done count piece old new (bytes, reads, len, taken) given width grows =
-    let behind : looks.gave mid (at + length bytes) piece last = subst (λ n. looks.gave mid (at + n) piece last) (sym len) given in
-    (bytes ++ piece, then_bytes reads behind, omega (arith, length-append bytes piece, len, width), grows bytes taken)
+    (bytes ++ piece, then_bytes reads (rw len given), omega (arith, length-append bytes piece, len, width), grows bytes taken)

@@ -63,9 +63,9 @@ live_looks view of = record {
 
 pub live_at : {V S G : Type 0} (view : ViewOf V G) (of : S → V) (begun : S) → LooksAt view (live_looks view of) (of begun) (λ s. s ≡ begun)
 live_at view of begun = record {
-  showed = λ first last named here look. (subst (λ s. view.has_named (of s) named) here look.0, look.1 ∙ here);
-  gave = λ first last at bytes here look. (subst (λ s. view.gave (of s) at bytes) here look.0, look.1 ∙ here);
-  faulted = λ first last fault at len here look. (subst (λ s. view.faulted (of s) fault at len) here look.0, look.1 ∙ here);
+  showed = λ first last named here look. (rw here at look.0, look.1 ∙ here);
+  gave = λ first last at bytes here look. (rw here at look.0, look.1 ∙ here);
+  faulted = λ first last fault at len here look. (rw here at look.0, look.1 ∙ here);
 }
 
 pub live_verdict : {V S G F : Type 0} (view : ViewOf V G) (of : S → V) (begun : S) (finds : FindsOf F) (shape : Shape) (finder : F) (part : Part) (verdict : Verdict) (last : S)
@@ -75,6 +75,4 @@ live_verdict view of begun finds shape finder part verdict last judged =
 
 pub unread_of : {S G F : Type 0} (looks : LooksOf S G) (finds : FindsOf F) (finder : F) (extent : Extent) (first last : S) (result : Result (List ℕ) Halt) (cause : Halt)
     → IfErr result (λ found. Halts looks finds finder extent first found last) → result ≡ Err cause → cause ≡ halt.Unread → ReadsSome looks extent first last
-unread_of looks finds finder extent first last result cause said is unread =
-    let told : Halts looks finds finder extent first cause last = subst (λ r. IfErr r (λ found. Halts looks finds finder extent first found last)) is said in
-    subst (λ h. Halts looks finds finder extent first h last) unread told
+unread_of looks finds finder extent first last result cause said is unread = rw (is, unread) at said

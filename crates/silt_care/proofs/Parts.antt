@@ -21,4 +21,4 @@ part_by shape place false is = tt
 
 -- the part at a place is one of the device
 pub is_part : (shape : Shape) (place : ℕ) (part : Part) → part ≡ part_at shape place → IsPartOf shape part
-is_part shape place part same = subst (IsPartOf shape) (sym same) (part_by shape place (nat_lt place shape.hashes) refl)
+is_part shape place part same = rw same (part_by shape place (nat_lt place shape.hashes) refl)

@@ -21,57 +21,22 @@ pub none_yet : AreFew 0 nothing
 none_yet = record { stores = omega arith; bytes = omega arith; skipped = omega arith; findings = omega arith }
 
 pub few_more : (parts : ℕ) (so_far : Scrubbed) (part : Part) (verdict : Verdict) → AreFew parts so_far → verdict_len verdict ≤ 2 ^ 39 → AreFew (parts + 1) (with_verdict so_far part verdict)
-few_more parts so_far part Unnamed few most = record {
-  stores = omega (arith, few.stores);
-  bytes = omega (arith, few.bytes);
-  skipped = omega (arith, few.skipped);
-  findings = omega (arith, few.findings);
-}
-few_more parts so_far part (Sound len) few most = record {
-  stores = omega (arith, few.stores);
-  bytes = omega (arith, few.bytes, most);
-  skipped = omega (arith, few.skipped);
-  findings = omega (arith, few.findings);
-}
-few_more parts so_far part (Damaged len) few most = record {
-  stores = omega (arith, few.stores);
-  bytes = omega (arith, few.bytes, most);
-  skipped = omega (arith, few.skipped);
-  findings = omega (arith, few.findings);
-}
-few_more parts so_far part Unread few most = record {
-  stores = omega (arith, few.stores);
-  bytes = omega (arith, few.bytes);
-  skipped = omega (arith, few.skipped);
-  findings = omega (arith, few.findings);
-}
-few_more parts so_far part Moved few most = record {
-  stores = omega (arith, few.stores);
-  bytes = omega (arith, few.bytes);
-  skipped = omega (arith, few.skipped);
-  findings = omega (arith, few.findings);
-}
-few_more parts so_far part Ended few most = record {
-  stores = omega (arith, few.stores);
-  bytes = omega (arith, few.bytes);
-  skipped = omega (arith, few.skipped);
-  findings = omega (arith, few.findings);
-}
+few_more parts so_far part Unnamed few most =
+    record { stores = omega (arith, few.stores); bytes = omega (arith, few.bytes, most); skipped = omega (arith, few.skipped); findings = omega (arith, few.findings) }
+few_more parts so_far part verdict few most =
+    record { stores = omega (arith, few.stores); bytes = omega (arith, few.bytes, most); skipped = omega (arith, few.skipped); findings = omega (arith, few.findings) }
 
 -- a pass that has begun
 pub passes_none : {V G F : Type 0} (view : ViewOf V G) (finds : FindsOf F) (seen : V) (shape : Shape) (first : F) (so_far : Scrubbed) → so_far ≡ nothing
     → Passes view finds seen shape first 0 so_far first
-passes_none view finds seen shape first so_far is = subst (λ s. Passes view finds seen shape first 0 s first) (sym is) begins
+passes_none view finds seen shape first so_far is = rw is begins
 
 -- one part more
 pub passes_more : {V G F : Type 0} (view : ViewOf V G) (finds : FindsOf F) (seen : V) (shape : Shape) (first now after : F) (place : ℕ) (so_far whole : Scrubbed) (part : Part) (verdict : Verdict)
     → part ≡ part_at shape place → Passes view finds seen shape first place so_far now → IsVerdict view finds seen shape now part verdict
     → Hears finds now (finding_of part verdict) after → whole ≡ with_verdict so_far part verdict → Passes view finds seen shape first (place + 1) whole after
 passes_more view finds seen shape first now after place so_far whole part verdict part_is passes judged heard is =
-    let judged_there : IsVerdict view finds seen shape now (part_at shape place) verdict = subst (λ p. IsVerdict view finds seen shape now p verdict) part_is judged in
-    let heard_there : Hears finds now (finding_of (part_at shape place) verdict) after = subst (λ p. Hears finds now (finding_of p verdict) after) part_is heard in
-    let is_there : whole ≡ with_verdict so_far (part_at shape place) verdict = is ∙ ap (λ p. with_verdict so_far p verdict) part_is in
-    subst (λ w. Passes view finds seen shape first (place + 1) w after) (sym is_there) (goes_on verdict passes judged_there heard_there)
+    rw (is, part_is) (goes_on verdict passes (rw part_is at judged) (rw part_is at heard))
 
 pub never_both : (test : Bool) → test ≡ true → test ≡ false → ⊥
 never_both test is not = cc

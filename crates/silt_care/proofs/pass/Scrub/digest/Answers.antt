@@ -14,9 +14,6 @@ loop-done-preserved g c =
     let width : length (take c.min-count.result c.loop-done.room) ≡ c.min-count.result = length-take-le c.min-count.result c.loop-done.room (omega arith) in
     record {
       upto = omega arith;
-      room =
-          omega (arith, width, length-append c.take_piece.new.piece (drop c.min-count.result c.loop-done.room), length-drop c.min-count.result c.loop-done.room);
-      taken =
-          taken_more g.L.Looks c.args.extent.now.at c.args.looks.now c.loop-done.looks c.take_piece.new.looks c.loop-done.done c.min-count.result given.0 c.loop-done.hasher
-          c.take_piece.new.hasher i.taken given.1 (given.2 ∙ width) given.3;
+      room = omega (arith, width, length-append c.take_piece.new.piece (drop c.min-count.result c.loop-done.room), length-drop c.min-count.result c.loop-done.room);
+      taken = taken_more g.L.Looks _ _ _ _ _ _ _ _ _ i.taken given.1 (given.2 ∙ width) given.3;
     }

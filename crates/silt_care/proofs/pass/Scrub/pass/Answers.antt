@@ -8,9 +8,8 @@ pub loop-place-init : goal.loop-place-init
 loop-place-init g c =
     let is = c.nothing-scrubbed.ensures in
     record {
-      passes =
-          passes_none g.V.View g.F.Finds c.args.self.now.view.now c.geometry-geometry.result c.args.finds.now c.nothing-scrubbed.result is;
-      few = subst (AreFew 0) (sym is) none_yet;
+      passes = passes_none _ _ _ _ _ _ is;
+      few = rw is none_yet;
       goes_on = ap (λ (s : Scrubbed). s.has_ended) is;
       room = c.in_ok-room.ensures.len;
     }
@@ -25,9 +24,7 @@ returns-then-scrubbed-clause-ok g c =
       c.geometry-geometry.ensures,
       record {
         parts = c.loop-place.place + 1;
-        passes =
-            passes_more g.V.View g.F.Finds c.args.self.now.view.now c.geometry-geometry.result c.args.finds.now c.loop-place.finds c.hear.new.finds c.loop-place.place c.loop-place.scrubbed
-            c.add.new.self c.at-part.result c.look_at-verdict.result c.at-part.ensures i.passes c.look_at-verdict.ensures.verdict c.hear.ensures c.add.ensures;
+        passes = passes_more _ _ _ _ _ _ _ _ _ _ _ c.look_at-verdict.result c.at-part.ensures i.passes c.look_at-verdict.ensures.verdict c.hear.ensures c.add.ensures;
         whole = λ not. absurd (never_both c.add.new.self.has_ended c.if-scrubbed.true not);
       },
     )
@@ -36,12 +33,8 @@ pub loop-place-preserved : goal.loop-place-preserved
 loop-place-preserved g c =
     let i = c.loop-place.invariant in
     record {
-      passes =
-          passes_more g.V.View g.F.Finds c.args.self.now.view.now c.geometry-geometry.result c.args.finds.now c.loop-place.finds c.hear.new.finds c.loop-place.place c.loop-place.scrubbed
-          c.add.new.self c.at-part.result c.look_at-verdict.result c.at-part.ensures i.passes c.look_at-verdict.ensures.verdict c.hear.ensures c.add.ensures;
-      few =
-          subst (AreFew (c.loop-place.place + 1)) (sym c.add.ensures)
-          (few_more c.loop-place.place c.loop-place.scrubbed c.at-part.result c.look_at-verdict.result i.few c.look_at-verdict.ensures.most);
+      passes = passes_more _ _ _ _ _ _ _ _ _ _ _ c.look_at-verdict.result c.at-part.ensures i.passes c.look_at-verdict.ensures.verdict c.hear.ensures c.add.ensures;
+      few = rw c.add.ensures (few_more _ _ c.at-part.result c.look_at-verdict.result i.few c.look_at-verdict.ensures.most);
       goes_on = c.if-scrubbed.false;
       room = i.room;
     }
