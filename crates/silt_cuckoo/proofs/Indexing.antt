@@ -1,29 +1,27 @@
 -- What the table of some keys holds: the newest place of each key.
-use Rattle.silt_cuckoo.proofs.Common.{◌≡◌, ◌≢◌, inl, inr, ℕ, zero, suc, ◌*◌, ◌/◌, ◌<◌, true, List, [], ◌∷◌, ◌++◌, length, fold, get_or, Some, None, option_map, refl, sym, subst, ap, ◌∙◌, arith}
-use Rattle.silt_cuckoo.proofs.Common.{length-append, length-set, bytes_eq-Decides, length-replicate, cases_eq, cases_lt, cases_Bool, Slots, Entry, IsTable, IsBucketCount, HoldsPlace, bucket_count}
-use Rattle.silt_cuckoo.proofs.Common.{empty_slots, entry_at, tag_at, place_at, placed, replaced, has_place, AddsPair, TakesSlot, first_bucket, second_bucket, key_pair, Index, is_entry_of}
-use Rattle.silt_cuckoo.proofs.Common.{slot_of_key}
+use Rattle.silt_cuckoo.proofs.Common.{◌≡◌, ◌≢◌, inl, inr, ℕ, ◌*◌, ◌/◌, ◌<◌, true, List, [], ◌∷◌, ◌++◌, length, fold, get_or, Some, None, option_map, refl, sym, subst, ap, ◌∙◌, arith}
+use Rattle.silt_cuckoo.proofs.Common.{length-append, length-set, bytes_eq-Decides, length-replicate, cases_eq, cases_lt, cases_Bool, Slots, Entry, IsTable, IsBucketCount, HoldsPlace}
+use Rattle.silt_cuckoo.proofs.Common.{bucket_count, empty_slots, entry_at, tag_at, place_at, placed, replaced, has_place, AddsPair, TakesSlot, first_bucket, second_bucket, key_pair, Index}
+use Rattle.silt_cuckoo.proofs.Common.{is_entry_of, slot_of_key}
 use Rattle.std.proofs.lemmas.Bool.{eq-eqb, ne_eqb, cases_order}
 use Rattle.silt_cuckoo.specs.Index.{IsNewest, Indexes, added, indexed}
 use Rattle.silt_cuckoo.specs.Laws.{IndexLaw}
 use Rattle.silt_cuckoo.proofs.Search.{found_in_range, none_in_range, some_or_none}
 use Rattle.silt_cuckoo.proofs.Paths.{entry_inside}
 use Rattle.silt_cuckoo.proofs.Placed.{has_entry, has_place_is, is_has_place, table_pairs-held, table_law, pair_law}
-use Rattle.silt_cuckoo.proofs.Tables.{empty_table, entry_at-free}
+use Rattle.silt_cuckoo.proofs.Tables.{empty_table}
+use Rattle.std.proofs.lemmas.List.{get_or_append_left, get_or_push}
 use Rattle.silt_cuckoo.proofs.Replaced.{replace_law}
-use Rattle.silt_cuckoo.proofs.Places.{held_before, holds_from_pair, pair_held}
+use Rattle.silt_cuckoo.proofs.Places.{empty_below, held_before, holds_from_pair, pair_held}
 use Rattle.silt_cuckoo.proofs.KeyIndex.{next_index, stays_none, indexed_keys}
 
 -- the key at the end
 at_last : (keys : List (List ℕ)) (key : List ℕ) → get_or (keys ++ key ∷ []) (length keys) [] ≡ key
-at_last [] key = refl
-at_last (k ∷ keys) key = at_last keys key
+at_last keys key = get_or_push keys key [] (length keys) refl
 
 -- the keys before it stay
 at_before : (keys : List (List ℕ)) (key : List ℕ) (place : ℕ) → place < length keys → get_or (keys ++ key ∷ []) place [] ≡ get_or keys place []
-at_before [] key place low = absurd (omega arith)
-at_before (k ∷ keys) key zero low = refl
-at_before (k ∷ keys) key (suc place) low = at_before keys key place (omega arith)
+at_before keys key place low = get_or_append_left keys (key ∷ []) [] place low
 
 -- a further key is the newest
 newest_last : (keys : List (List ℕ)) (key : List ℕ) → IsNewest (keys ++ key ∷ []) (length keys)
@@ -31,15 +29,7 @@ newest_last keys key = (omega (arith, length-append keys (key ∷ [])), λ later
 
 -- another key's newest place stays the newest
 newest_before : (keys : List (List ℕ)) (key : List ℕ) (place : ℕ) → IsNewest keys place → get_or keys place [] ≢ key → IsNewest (keys ++ key ∷ []) place
-newest_before keys key place (low, none) other = (
-  omega (arith, length-append keys (key ∷ [])),
-  λ later above below same. elim (cases_lt later (length keys)) [
-    | inl there ↦ none later above there (sym (at_before keys key later there) ∙ same ∙ at_before keys key place low)
-    | inr past ↦
-        let last : later ≡ length keys = omega (arith, length-append keys (key ∷ [])) in
-        other (sym (at_before keys key place low) ∙ sym same ∙ ap (λ n. get_or (keys ++ key ∷ []) n []) last ∙ at_last keys key)
-  ],
-)
+newest_before keys key place (low, none) other = search (arith, length-append, cases_lt, at_before, get_or_push)
 
 -- and was it before
 before_newest : (keys : List (List ℕ)) (key : List ℕ) (place : ℕ) → IsNewest (keys ++ key ∷ []) place → place ≢ length keys → IsNewest keys place × (get_or keys place [] ≢ key)
@@ -51,18 +41,11 @@ before_newest keys key place (low, none) other =
 
 -- a key has one newest place
 pub newest_apart : (keys : List (List ℕ)) (p q : ℕ) → IsNewest keys p → IsNewest keys q → get_or keys p [] ≡ get_or keys q [] → p ≡ q
-newest_apart keys p q (p_low, p_none) (q_low, q_none) same = elim (cases_order p q) [
-  | inl is ↦ is
-  | inr (inl below) ↦ absurd (p_none q below q_low (sym same))
-  | inr (inr above) ↦ absurd (q_none p above p_low same)
-]
+newest_apart keys p q (p_low, p_none) (q_low, q_none) same = search (arith, cases_order)
 
 -- a slot that has the key
 pub has_key_is : (keys : List (List ℕ)) (slots : Slots) (key : List ℕ) (slot : ℕ) → is_entry_of keys slots key slot ≡ true → (e : Entry) × (entry_at slots slot ≡ Some e) × (get_or keys e.1 [] ≡ key)
-has_key_is keys slots key slot h = elim (some_or_none (entry_at slots slot)) [
-  | inl none ↦ absurd (cc)
-  | inr (e, is) ↦ (e, is, (bytes_eq-Decides (get_or keys e.1 []) key).0 (cc))
-]
+has_key_is keys slots key slot h = search (arith, some_or_none, bytes_eq-Decides)
 
 -- a slot whose entry is that of the key passes the test
 pub is_has_key : (keys : List (List ℕ)) (slots : Slots) (key : List ℕ) (slot : ℕ) (e : Entry) → entry_at slots slot ≡ Some e → get_or keys e.1 [] ≡ key → is_entry_of keys slots key slot ≡ true
@@ -74,15 +57,12 @@ no_key keys slots key place none (slot, held) same =
     let entry = has_entry slots slot place held in
     let there = entry_inside slots slot entry.0 entry.1 in
     let fails = none_in_range (is_entry_of keys slots key) 0 (length slots) none slot (omega arith) (omega arith) in
-    let passes = is_has_key keys slots key slot entry.0 entry.1 (ap (λ n. get_or keys n []) entry.2 ∙ same) in
-    absurd (cc)
+    search (arith, is_has_key)
 
 -- a key's buckets are the table's
 key_there : (slots : Slots) (buckets : ℕ) (keys : List (List ℕ)) (key : List ℕ) → Indexes slots buckets keys
     → (first_bucket buckets key < bucket_count slots) × (second_bucket buckets key < bucket_count slots)
-key_there slots buckets keys key index =
-    let some : 0 < buckets = omega (arith, index.count, index.table.buckets.least) in
-    rw index.count (omega arith, omega arith)
+key_there slots buckets keys key index = search arith
 
 -- a key that is placed
 pub step_placed : (slots new : Slots) (buckets : ℕ) (keys : List (List ℕ)) (key : List ℕ) → Indexes slots buckets keys → slot_of_key keys slots key ≡ None
@@ -180,10 +160,7 @@ indexes_none buckets count =
       table = empty_table buckets count;
       count = omega arith;
       newest = λ place is. absurd (omega (arith, is.0));
-      no_other = λ place (slot, is).
-          let none = entry_at-free (4 * buckets) slot in
-          let h : option_map (λ (e : Entry). e.1) None ≡ Some place = rw none at is in
-          absurd (cc);
+      no_other = λ place (slot, is). absurd (omega (arith, empty_below buckets 0 slot place is));
     }
 
 -- one key more

@@ -1,5 +1,5 @@
 -- A remainder by a power of two, as a mask of its bits.
-use Rattle.silt_cuckoo.proofs.Common.{◌≡◌, ℕ, ◌+◌, ◌-◌, ◌*◌, ◌%◌, ◌≤◌, ◌<◌, ap, ◌∙◌, arith, count_ones}
+use Rattle.silt_cuckoo.proofs.Common.{◌≡◌, ℕ, ◌+◌, ◌-◌, ◌*◌, ◌%◌, ◌≤◌, ◌<◌, arith, count_ones}
 use Rattle.std.proofs.Common.{◌^◌, bit_and}
 use Rattle.std.proofs.lemmas.Nat.{and_mask, leading_top, ones_cat, zero_from_ones}
 use Rattle.std.proofs.Math.Nat.{pow-succ'}
@@ -15,9 +15,7 @@ one_bit n some fits one =
     let rest : ℕ = n - 2 ^ k in
     let small : rest < 2 ^ k = omega (arith, least, most) in
     let parts : n ≡ 1 * 2 ^ k + rest = omega (arith, least) in
-    let counts : count_ones n ≡ 1 + count_ones rest = ap count_ones parts ∙ ones_cat k 1 rest small in
-    let none : rest ≡ 0 = zero_from_ones rest (omega (arith, counts, one)) in
-    (k, omega (arith, none, least))
+    search (arith, ones_cat, zero_from_ones)
 
 -- a mask of the bits below it is a remainder
 pub masked : (n power : ℕ) → 0 < power → power < 2 ^ 32 → count_ones power ≡ 1 → bit_and n (power - 1) ≡ n % power

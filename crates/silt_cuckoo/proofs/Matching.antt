@@ -1,35 +1,25 @@
 -- Candidates, slot by slot.
-use Rattle.silt_cuckoo.proofs.Common.{◌≡◌, ◌≢◌, ◌⊎◌, inl, inr, ℕ, zero, suc, ◌+◌, ◌*◌, ◌/◌, ◌<◌, ◌≤◌, ◌==◌, min, max, ◌↔◌, if◌then◌else◌, Bool, true, false, List, [], ◌∷◌, ◌++◌, Option, Some, None}
-use Rattle.silt_cuckoo.proofs.Common.{option_map, refl, sym, subst, ap, ◌∙◌, arith, append-nil, range_with_len, filter_map, cons_option, cases_eq, Candidate, Slots, Entry, PlacesApart, entry_at}
-use Rattle.silt_cuckoo.proofs.Common.{place_at, pair_of, table_pairs, match_at, matches_in, places_of}
+use Rattle.silt_cuckoo.proofs.Common.{◌≡◌, ◌≢◌, ◌⊎◌, inl, inr, ℕ, zero, suc, ◌+◌, ◌*◌, ◌/◌, ◌<◌, ◌≤◌, ◌==◌, ◌↔◌, if◌then◌else◌, Bool, true, false, List, [], ◌∷◌, ◌++◌, Option, Some, None}
+use Rattle.silt_cuckoo.proofs.Common.{option_map, refl, sym, subst, ap, ◌∙◌, arith, append-nil, range_with_len, filter_map, cons_option, cases_eq, Candidate, Slots, Entry, PlacesApart}
+use Rattle.silt_cuckoo.proofs.Common.{entry_at, place_at, pair_of, table_pairs, match_at, matches_in, places_of}
 use Rattle.silt_cuckoo.proofs.Search.{some_or_none}
 use Rattle.std.specs.List.{All, AllPairs, Contains}
 use Rattle.std.proofs.lemmas.Bool.{eq-eqb, ne_eqb}
 use Rattle.std.proofs.lemmas.List.Elements.{All-nil, All-cons, All-append}
 use Rattle.std.proofs.lemmas.Grind.{get_or_default_zero}
 use Rattle.silt_cuckoo.specs.Lookup.{candidates_of}
-use Rattle.silt_cuckoo.proofs.Paths.{IsOn, NoneTwice, on_index, index_apart}
+use Rattle.silt_cuckoo.proofs.Paths.{IsOn, NoneTwice, none_twice_append, on_append, on_index, index_apart}
 use Rattle.silt_cuckoo.proofs.Sources.{pair_of-swap}
 use Rattle.silt_cuckoo.proofs.Placed.{table_pairs-held, table_pairs-not_held, cases_held}
 
 -- what a function gives of one number more
 pub filter_map_more : {X : Type 0} (f : ℕ → Option X) (a n j : ℕ) → a + n ≡ j → filter_map f (range_with_len a (n + 1)) ≡ filter_map f (range_with_len a n) ++ cons_option (f j) []
 filter_map_more f a zero j e = let same : a ≡ j = omega arith in rw same
-filter_map_more f a (suc n) j e =
-    let one : suc n + 1 ≡ suc (n + 1) = omega arith in
-    rw (one, filter_map_more f (a + 1) n j (omega arith)) (elim (some_or_none (f a)) [ inl none ↦ rw none | inr (x, is) ↦ rw is ])
+filter_map_more f a (suc n) j e = search (arith, filter_map_more f (a + 1) n j, some_or_none)
 
 -- what a match means: the slot has an entry with this tag and place
 pub match_is : (slots : Slots) (tag slot : ℕ) (c : Candidate) → match_at slots tag slot ≡ Some c → (c.slot ≡ slot) × (entry_at slots slot ≡ Some (tag, c.place))
-match_is slots tag slot c e = elim (some_or_none (entry_at slots slot)) [
-  | inl none ↦ absurd (cc)
-  | inr (x, is) ↦ elim (cases_eq x.0 tag) [
-    | inl same ↦
-        let made : record { slot = slot; place = x.1 } ≡ c = cc (eq-eqb x.0 tag same) in
-        (sym (ap (λ (k : Candidate). k.slot) made), is ∙ rw (← same, ← ap (λ (k : Candidate). k.place) made) refl)
-    | inr other ↦ absurd (cc (ne_eqb x.0 tag other))
-  ]
-]
+match_is slots tag slot c e = search (arith, some_or_none, cases_eq, eq-eqb, ne_eqb)
 
 -- an entry with this tag is a match
 pub is_match : (slots : Slots) (tag slot place : ℕ) → entry_at slots slot ≡ Some (tag, place) → match_at slots tag slot ≡ Some (record { slot = slot; place = place })
@@ -39,28 +29,13 @@ is_match slots tag slot place is = let test = eq-eqb tag tag refl in rw (is, tes
 pub match_found : (slots : Slots) (tag place a n : ℕ) → IsOn place (places_of (filter_map (match_at slots tag) (range_with_len a n)))
     → (slot : ℕ) × (a ≤ slot) × (slot < a + n) × (entry_at slots slot ≡ Some (tag, place))
 match_found slots tag place a zero on = absurd on
-match_found slots tag place a (suc n) on = go (match_at slots tag a) refl (match_found slots tag place (a + 1) n) on
-  where
-    go : (o : Option Candidate) → match_at slots tag a ≡ o
-        → (IsOn place (places_of (filter_map (match_at slots tag) (range_with_len (a + 1) n))) → (slot : ℕ) × (a + 1 ≤ slot) × (slot < a + 1 + n) × (entry_at slots slot ≡ Some (tag, place)))
-        → IsOn place (places_of (cons_option o (filter_map (match_at slots tag) (range_with_len (a + 1) n)))) → (slot : ℕ) × (a ≤ slot) × (slot < a + suc n) × (entry_at slots slot ≡ Some (tag, place))
-    go None is rest on = let there = rest on in (there.0, omega (arith, there.1), omega (arith, there.2), there.3)
-    go (Some c) is rest (inl same) = let it = match_is slots tag a c is in (a, omega arith, omega arith, rw same it.1)
-    go (Some c) is rest (inr on) = let there = rest on in (there.0, omega (arith, there.1), omega (arith, there.2), there.3)
+match_found slots tag place a (suc n) on = search (arith, match_found slots tag place (a + 1) n, match_is)
 
 -- the place of each entry with the tag is among the matches
 pub found_match : (slots : Slots) (tag place a n slot : ℕ) → a ≤ slot → slot < a + n → entry_at slots slot ≡ Some (tag, place)
     → IsOn place (places_of (filter_map (match_at slots tag) (range_with_len a n)))
 found_match slots tag place a zero slot low high is = absurd (omega arith)
-found_match slots tag place a (suc n) slot low high is = elim (cases_eq a slot) [
-  | inl same ↦ let here = is_match slots tag slot place is in rw (same, here) (inl refl)
-  | inr other ↦ go (match_at slots tag a) (found_match slots tag place (a + 1) n slot (omega arith) (omega arith) is)
-]
-  where
-    go : (o : Option Candidate) → IsOn place (places_of (filter_map (match_at slots tag) (range_with_len (a + 1) n)))
-        → IsOn place (places_of (cons_option o (filter_map (match_at slots tag) (range_with_len (a + 1) n))))
-    go None on = on
-    go (Some c) on = inr on
+found_match slots tag place a (suc n) slot low high is = search (arith, found_match slots tag place (a + 1) n slot, cases_eq, is_match)
 
 -- no place is twice among the matches
 pub matches_apart : (slots : Slots) (tag a n : ℕ) → PlacesApart slots → NoneTwice (places_of (filter_map (match_at slots tag) (range_with_len a n)))
@@ -79,12 +54,6 @@ matches_apart slots tag a (suc n) apart = go (match_at slots tag a) refl (matche
       rest,
     )
 
--- a place of two lists
-pub on_append : (x : ℕ) (xs ys : List ℕ) → IsOn x (xs ++ ys) → IsOn x xs ⊎ IsOn x ys
-on_append x [] ys on = inr on
-on_append x (s ∷ xs) ys (inl same) = inl (inl same)
-on_append x (s ∷ xs) ys (inr on) = elim (on_append x xs ys on) [ inl there ↦ inl (inr there) | inr there ↦ inr there ]
-
 -- a place of the first list
 pub on_left : (x : ℕ) (xs ys : List ℕ) → IsOn x xs → IsOn x (xs ++ ys)
 on_left x [] ys on = absurd on
@@ -95,14 +64,6 @@ on_left x (s ∷ xs) ys (inr on) = inr (on_left x xs ys on)
 pub on_right : (x : ℕ) (xs ys : List ℕ) → IsOn x ys → IsOn x (xs ++ ys)
 on_right x [] ys on = on
 on_right x (s ∷ xs) ys on = inr (on_right x xs ys on)
-
--- two lists with no place in common
-none_twice_append : (xs ys : List ℕ) → NoneTwice xs → NoneTwice ys → ((x : ℕ) → IsOn x xs → IsOn x ys → ⊥) → NoneTwice (xs ++ ys)
-none_twice_append [] ys left right apart = right
-none_twice_append (s ∷ xs) ys left right apart = (
-  λ on. elim (on_append s xs ys on) [ inl there ↦ left.0 there | inr there ↦ apart s (inl refl) there ],
-  none_twice_append xs ys left.1 right (λ x there on. apart x (inr there) on),
-)
 
 -- the places of two lists
 places_of-append : (xs ys : List Candidate) → places_of (xs ++ ys) ≡ places_of xs ++ places_of ys
@@ -124,7 +85,7 @@ candidates_same slots first second same = let test = eq-eqb first second same in
 candidate_pair : (slots : Slots) (first second place : ℕ) → PlacesApart slots → IsOn place (places_of (candidates_of slots first second)) → table_pairs slots place ≡ Some (pair_of first second)
 candidate_pair slots first second place apart on = elim (cases_eq first second) [
   | inl same ↦ from first second (subst (λ (cs : List Candidate). IsOn place (places_of cs)) (candidates_same slots first second same) on)
-  | inr other ↦ elim (on_append place (places_of (matches_in slots first second)) (places_of (matches_in slots second first)) (subst (IsOn place) (candidates_differ slots first second other) on)) [
+  | inr other ↦ elim (on_append place _ _ (subst (IsOn place) (candidates_differ slots first second other) on)) [
     | inl there ↦ from first second there
     | inr there ↦ from second first there ∙ ap Some (pair_of-swap second first)
   ]
@@ -132,20 +93,13 @@ candidate_pair slots first second place apart on = elim (cases_eq first second) 
   where
     from : (bucket tag : ℕ) → IsOn place (places_of (matches_in slots bucket tag)) → table_pairs slots place ≡ Some (pair_of bucket tag)
     from bucket tag on =
-        let found = match_found slots tag place (4 * bucket) 4 on in
+        let found = match_found slots tag place _ 4 on in
         let here : found.0 / 4 ≡ bucket = omega (arith, found.1, found.2) in
-        table_pairs-held slots found.0 place apart (ap (option_map (λ (e : Entry). e.1)) found.3)
-        ∙ ap (option_map (λ (e : Entry). pair_of (found.0 / 4) e.0)) found.3 ∙ ap (λ b. Some (pair_of b tag)) here
+        cc (table_pairs-held slots found.0 place apart (ap (option_map (λ (e : Entry). e.1)) found.3), found.3)
 
 -- equal pairs are of the same two buckets
 same_pair : (a b c d : ℕ) → pair_of a b ≡ pair_of c d → ((a ≡ c) × (b ≡ d)) ⊎ ((a ≡ d) × (b ≡ c))
-same_pair a b c d same =
-    let low : min a b ≡ min c d = ap (λ p. p.0) same in
-    let high : max a b ≡ max c d = ap (λ p. p.1) same in
-    elim (cases_eq a c) [
-      | inl is ↦ inl (is, omega arith)
-      | inr other ↦ inr (omega arith, omega arith)
-    ]
+same_pair a b c d same = search (arith, cases_eq)
 
 -- each place with the pair is among the candidates
 pub pair_candidate : (slots : Slots) (first second place : ℕ) → PlacesApart slots → table_pairs slots place ≡ Some (pair_of first second) → IsOn place (places_of (candidates_of slots first second))
@@ -155,18 +109,18 @@ pair_candidate slots first second place apart is = elim (cases_held slots place)
 ]
   where
     found : (bucket tag slot : ℕ) → slot / 4 ≡ bucket → entry_at slots slot ≡ Some (tag, place) → IsOn place (places_of (matches_in slots bucket tag))
-    found bucket tag slot here entry = found_match slots tag place (4 * bucket) 4 slot (omega arith) (omega arith) entry
+    found bucket tag slot here entry = found_match slots tag place _ 4 slot (omega arith) (omega arith) entry
 
     in_first : IsOn place (places_of (matches_in slots first second)) → IsOn place (places_of (candidates_of slots first second))
     in_first on = elim (cases_eq first second) [
       | inl same ↦ subst (λ (cs : List Candidate). IsOn place (places_of cs)) (sym (candidates_same slots first second same)) on
-      | inr other ↦ subst (IsOn place) (sym (candidates_differ slots first second other)) (on_left place (places_of (matches_in slots first second)) (places_of (matches_in slots second first)) on)
+      | inr other ↦ subst (IsOn place) (sym (candidates_differ slots first second other)) (on_left place _ _ on)
     ]
 
     in_second : IsOn place (places_of (matches_in slots second first)) → IsOn place (places_of (candidates_of slots first second))
     in_second on = elim (cases_eq first second) [
       | inl same ↦ in_first (rw same (rw same at on))
-      | inr other ↦ subst (IsOn place) (sym (candidates_differ slots first second other)) (on_right place (places_of (matches_in slots first second)) (places_of (matches_in slots second first)) on)
+      | inr other ↦ subst (IsOn place) (sym (candidates_differ slots first second other)) (on_right place _ _ on)
     ]
 
     at : (slot : ℕ) (o : Option Entry) → entry_at slots slot ≡ o → option_map (λ (e : Entry). e.1) o ≡ Some place → option_map (λ (e : Entry). pair_of (slot / 4) e.0) o ≡ Some (pair_of first second)
@@ -175,7 +129,7 @@ pair_candidate slots first second place apart is = elim (cases_held slots place)
     at slot (Some e) entry held pair =
         let place_is : e.1 ≡ place = cc in
         let pair_is : pair_of (slot / 4) e.0 ≡ pair_of first second = cc in
-        elim (same_pair (slot / 4) e.0 first second pair_is) [
+        elim (same_pair _ e.0 first second pair_is) [
           | inl (here, tag) ↦ in_first (found first second slot here (entry ∙ rw (← tag, ← place_is) refl))
           | inr (here, tag) ↦ in_second (found second first slot here (entry ∙ rw (← tag, ← place_is) refl))
         ]
@@ -184,10 +138,8 @@ pair_candidate slots first second place apart is = elim (cases_held slots place)
 candidates_apart : (slots : Slots) (first second : ℕ) → PlacesApart slots → NoneTwice (places_of (candidates_of slots first second))
 candidates_apart slots first second apart = elim (cases_eq first second) [
   | inl same ↦ subst (λ (cs : List Candidate). NoneTwice (places_of cs)) (sym (candidates_same slots first second same)) (matches_apart slots second (4 * first) 4 apart)
-  | inr other ↦ subst NoneTwice (sym (candidates_differ slots first second other)) (none_twice_append (places_of (matches_in slots first second)) (places_of (matches_in slots second first))
-      (matches_apart slots second (4 * first) 4 apart)
-      (matches_apart slots first (4 * second) 4 apart)
-      (λ x on also.
+  | inr other ↦ subst NoneTwice (sym (candidates_differ slots first second other)) (none_twice_append (places_of (matches_in slots first second)) (places_of
+      (matches_in slots second first)) (matches_apart slots second (4 * first) 4 apart) (matches_apart slots first (4 * second) 4 apart) (λ x on also.
       let here = match_found slots second x (4 * first) 4 on in
       let there = match_found slots first x (4 * second) 4 also in
       let same = apart here.0 there.0 x (ap (option_map (λ (e : Entry). e.1)) here.3) (ap (option_map (λ (e : Entry). e.1)) there.3) in
@@ -208,18 +160,11 @@ on_contains (s ∷ xs) x (inr on) = let rest = on_contains xs x on in (suc rest.
 -- the candidates are exactly the places with the pair
 pub candidates_exact : (slots : Slots) (first second place : ℕ) → PlacesApart slots → Contains (places_of (candidates_of slots first second)) place
     ↔ (table_pairs slots place ≡ Some (pair_of first second))
-candidates_exact slots first second place apart = (
-  λ has. candidate_pair slots first second place apart (contains_on (places_of (candidates_of slots first second)) place has),
-  λ is. on_contains (places_of (candidates_of slots first second)) place (pair_candidate slots first second place apart is),
-)
+candidates_exact slots first second place apart = search (arith, candidate_pair, contains_on, on_contains, pair_candidate)
 
 -- each once
 pub candidates_once : (slots : Slots) (first second : ℕ) → PlacesApart slots → AllPairs (λ p q. p ≢ q) (places_of (candidates_of slots first second))
-candidates_once slots first second apart = pairs_apart (places_of (candidates_of slots first second)) (candidates_apart slots first second apart)
-  where
-    pairs_apart : (xs : List ℕ) → NoneTwice xs → AllPairs (λ p q. p ≢ q) xs
-    pairs_apart xs twice i j d low high = λ same.
-        index_apart xs i j twice low high (sym (get_or_default_zero xs j d high) ∙ sym same ∙ get_or_default_zero xs i d (omega arith))
+candidates_once slots first second apart = search (arith, candidates_apart, index_apart, get_or_default_zero)
 
 -- the candidate's slot has its place
 abbrev pub Stands : Slots → Candidate → Type 0

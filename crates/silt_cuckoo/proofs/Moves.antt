@@ -1,6 +1,6 @@
 -- Laws of moving entries along a path.
-use Rattle.silt_cuckoo.proofs.Common.{◌≡◌, ◌≢◌, ℕ, suc, ◌+◌, ◌<◌, ◌≤◌, List, [], ◌∷◌, length, drop, slice_set, slice_index, ◌/◌, Option, None, option_map, refl, sym, ap, ◌∙◌, arith}
-use Rattle.silt_cuckoo.proofs.Common.{get_or-set_other, length-drop, Slots, Entry, entry_at, moved_entry}
+use Rattle.silt_cuckoo.proofs.Common.{◌≡◌, ◌≢◌, ℕ, suc, ◌+◌, ◌<◌, ◌≤◌, List, [], ◌∷◌, length, drop, slice_set, slice_index, Option, None, refl, sym, ◌∙◌, arith, get_or-set_other}
+use Rattle.silt_cuckoo.proofs.Common.{length-drop, Slots, Entry, entry_at, moved_entry}
 use Rattle.std.proofs.Common.{get_or-drop}
 use Rattle.std.proofs.lemmas.List.{drop_more}
 use Rattle.silt_cuckoo.specs.Placing.{moved_along}
@@ -32,9 +32,4 @@ moved_last slots (s ∷ u ∷ path) short = absurd (omega arith)
 pub moved_turn : (slots now : Slots) (path : List ℕ) (k : ℕ) (entry : Option Entry) → now ≡ moved_along slots (drop (k + 1) path) → k + 1 < length path
     → ((i j : ℕ) → i < j → j < length path → slice_index path j ≢ slice_index path i)
     → entry ≡ moved_entry now (slice_index path k) → slice_set now (slice_index path (k + 1)) entry ≡ moved_along slots (drop k path)
-moved_turn slots now path k entry so_far long apart is =
-    let kept = moved_other slots (drop (k + 1) path) (slice_index path k)
-    (λ j low high. let here = get_or-drop (k + 1) path j 0 in λ e. apart k (k + 1 + j) (omega arith) (let l = length-drop (k + 1) path in omega arith) (sym here ∙ e)) in
-    let same : moved_entry now (slice_index path k) ≡ moved_entry slots (slice_index path k) =
-    ap (option_map (λ (e : Entry). (slice_index path k / 4, e.1))) (ap (λ t. entry_at t (slice_index path k)) so_far ∙ kept) in
-    cc (moved_more slots path k long)
+moved_turn slots now path k entry so_far long apart is = search (arith, moved_other, get_or-drop, length-drop, moved_more)

@@ -1,13 +1,12 @@
 -- A path that the placing rule finds leads from entry to entry, names no slot twice and stays inside the table.
-use Rattle.silt_cuckoo.proofs.Common.{◌≡◌, ◌≢◌, ◌⊎◌, inl, inr, ℕ, zero, suc, ◌+◌, ◌*◌, ◌/◌, ◌%◌, ◌<◌, ◌≤◌, true, false, not, ◌==◌, List, [], ◌∷◌, ◌++◌, length, slice_index, slice_set, Some, None}
-use Rattle.silt_cuckoo.proofs.Common.{◌↔◌, option_map, refl, sym, subst, ap, ◌∙◌, arith, length-append, cases_lt, get_or_past, Slots, Entry, IsTable, bucket_count, entry_at, tag_at, can_move}
-use Rattle.silt_cuckoo.proofs.Common.{ended_walk, bucket_after, plan_for, moved_along, other_bucket}
+use Rattle.silt_cuckoo.proofs.Common.{◌≡◌, ◌≢◌, ◌⊎◌, inl, inr, ℕ, zero, suc, ◌+◌, ◌*◌, ◌/◌, ◌%◌, ◌<◌, ◌≤◌, true, false, ◌==◌, List, [], ◌∷◌, ◌++◌, length, slice_index, slice_set, Some, None}
+use Rattle.silt_cuckoo.proofs.Common.{◌↔◌, option_map, refl, sym, subst, ap, ◌∙◌, arith, length-append, cases_lt, get_or_past, Slots, Entry, IsTable, bucket_count, entry_at, tag_at}
+use Rattle.silt_cuckoo.proofs.Common.{can_move, ended_walk, bucket_after, plan_for, moved_along, other_bucket}
 use Rattle.std.proofs.Common.{IsNone, IfSome, is_none}
 use Rattle.std.specs.List.{list_any}
 use Rattle.std.proofs.lemmas.Bool.{eq-eqb, not-true, and_parts}
 use Rattle.std.proofs.Math.Bool.{or-true}
-use Rattle.silt_cuckoo.specs.Placing.{free_slot, victim, turns, shortest_walk, path_for, PathPlan}
-use Rattle.silt_cuckoo.specs.Placing.{IsPlanFor, placed, put_along}
+use Rattle.silt_cuckoo.specs.Placing.{free_slot, victim, turns, shortest_walk, path_for, PathPlan, IsPlanFor, placed, put_along}
 use Rattle.silt_cuckoo.proofs.Search.{found_in_range, none_in_range, found_among, first_is, some_or_none}
 
 -- a slot of the path
@@ -53,16 +52,12 @@ entry_inside slots slot e is = elim (cases_lt slot (length slots)) [ inl there �
 -- a free slot of a bucket
 pub free_slot_is : (slots : Slots) (bucket slot : ℕ) → free_slot slots bucket ≡ Some slot → (entry_at slots slot ≡ None) × (slot / 4 ≡ bucket)
 unfolding free_slot
-free_slot_is slots bucket slot e =
-    let found = found_in_range (λ s. is_none (entry_at slots s)) (4 * bucket) 4 slot e in
-    let free : is_none (entry_at slots slot) ≡ true = found.2 in
-    (elim (some_or_none (entry_at slots slot)) [ inl none ↦ none | inr (x, is) ↦ absurd (cc) ], omega (arith, found.0, found.1))
+free_slot_is slots bucket slot e = search (arith, found_in_range, some_or_none)
 
 -- each slot of a full bucket has an entry
 pub full_bucket : (slots : Slots) (bucket slot : ℕ) → free_slot slots bucket ≡ None → slot / 4 ≡ bucket → HasTag slots slot (tag_at slots slot)
 unfolding free_slot
-full_bucket slots bucket slot none there =
-    has_tag slots slot (none_in_range (λ s. is_none (entry_at slots s)) (4 * bucket) 4 none slot (omega arith) (omega arith))
+full_bucket slots bucket slot none there = has_tag slots slot (search (arith, none_in_range))
 
 -- the test finds a slot that is on the path
 on_passes : (slot : ℕ) (path : List ℕ) → IsOn slot path → list_any (λ s. slot == s) path ≡ true
@@ -75,24 +70,25 @@ pub victim_is : (slots : Slots) (path : List ℕ) (bucket turn slot : ℕ) → v
 unfolding victim
 victim_is slots path bucket turn slot e =
     let found = found_among (can_move slots path bucket) (λ k. 4 * bucket + (turn + k) % 4) 0 4 slot e in
-    let is : 4 * bucket + (turn + found.0) % 4 ≡ slot = found.3 in
-    let free = not-true _ (and_parts (not (list_any (λ s. slot == s) path)) (not (tag_at slots slot == bucket)) found.4).0 in
-    (omega arith, λ on. let passes = on_passes slot path on in absurd (cc))
+    search (arith, not-true, and_parts, on_passes)
 
--- a slot on a path with one slot more
-on_push : (x slot : ℕ) (path : List ℕ) → IsOn x (path ++ slot ∷ []) → IsOn x path ⊎ (x ≡ slot)
-on_push x slot [] (inl same) = inr same
-on_push x slot [] (inr on) = absurd on
-on_push x slot (s ∷ path) (inl same) = inl (inl same)
-on_push x slot (s ∷ path) (inr on) = elim (on_push x slot path on) [ inl there ↦ inl (inr there) | inr last ↦ inr last ]
+-- a place of two lists
+pub on_append : (x : ℕ) (xs ys : List ℕ) → IsOn x (xs ++ ys) → IsOn x xs ⊎ IsOn x ys
+on_append x [] ys on = inr on
+on_append x (s ∷ xs) ys (inl same) = inl (inl same)
+on_append x (s ∷ xs) ys (inr on) = elim (on_append x xs ys on) [ inl there ↦ inl (inr there) | inr there ↦ inr there ]
+
+-- two lists with no place in common
+pub none_twice_append : (xs ys : List ℕ) → NoneTwice xs → NoneTwice ys → ((x : ℕ) → IsOn x xs → IsOn x ys → ⊥) → NoneTwice (xs ++ ys)
+none_twice_append [] ys left right apart = right
+none_twice_append (s ∷ xs) ys left right apart = (
+  λ on. elim (on_append s xs ys on) [ inl there ↦ left.0 there | inr there ↦ apart s (inl refl) there ],
+  none_twice_append xs ys left.1 right (λ x there on. apart x (inr there) on),
+)
 
 -- a slot that is not on the path may join it
 pub none_twice_push : (path : List ℕ) (slot : ℕ) → NoneTwice path → ¬ IsOn slot path → NoneTwice (path ++ slot ∷ [])
-none_twice_push [] slot twice off = (λ on. on, tt)
-none_twice_push (s ∷ path) slot twice off = (
-  λ on. elim (on_push s slot path on) [ inl there ↦ twice.0 there | inr last ↦ off (inl (sym last)) ],
-  none_twice_push path slot twice.1 (λ on. off (inr on)),
-)
+none_twice_push path slot twice off = none_twice_append path (slot ∷ []) twice (λ on. on, tt) (λ x there on. elim on [ inl same ↦ off (rw same at there) | inr on ↦ on ])
 
 -- a chain with one slot more
 chain_push : (slots : Slots) (bucket : ℕ) (path : List ℕ) (slot : ℕ) → Chain slots bucket path → slot / 4 ≡ bucket_after slots bucket path
@@ -201,9 +197,10 @@ walk_displaces slots first second walk table there parts =
     rw parts.is (record {
       leads = chain_leads slots first parts.path parts.free parts.chain end.1 end.0;
       twice = none_twice_push parts.path parts.free parts.twice (λ on. let entry = chain_entry slots first parts.path parts.free parts.chain on in let is = entry.1 in let none = end.0 in absurd (cc));
-      inside = λ s on. elim (on_push s parts.free parts.path on) [
+      inside = λ s on. elim (on_append s parts.path (parts.free ∷ []) on) [
         | inl there ↦ let entry = chain_entry slots first parts.path s parts.chain there in entry_inside slots s entry.0 entry.1
-        | inr last ↦ bucket_inside slots s table (omega (arith, end.1, below))
+        | inr (inl last) ↦ bucket_inside slots s table (omega (arith, end.1, below))
+        | inr (inr never) ↦ absurd never
       ];
       begins = inl (begins_in parts.path parts.chain parts.some);
     })
@@ -268,18 +265,12 @@ plan_placed slots plan path place planned same = cc (planned.path)
 
 -- a plan belongs to the table that it was made of
 pub plan_stands : (slots : Slots) (first second : ℕ) → first < bucket_count slots → second < bucket_count slots → IfSome (plan_for slots first second) (IsPlanFor slots)
-plan_stands slots first second first_there second_there = elim (some_or_none (path_for slots first second)) [
-  | inl none ↦ rw none tt
-  | inr (path, is) ↦ rw is (record { first_there = first_there; second_there = second_there; path = is })
-]
+plan_stands slots first second first_there second_there = search (arith, some_or_none)
 
 -- there is no plan if and only if nothing is placed
 pub plan_gives_up : (slots : Slots) (first second place : ℕ) → IsNone (plan_for slots first second) ↔ (placed slots first second place ≡ None)
 unfolding placed
-plan_gives_up slots first second place = elim (some_or_none (path_for slots first second)) [
-  | inl none ↦ rw none (λ _. refl, λ _. refl)
-  | inr (path, is) ↦ rw is (λ none. absurd (cc), λ none. absurd (cc))
-]
+plan_gives_up slots first second place = search (arith, some_or_none)
 
 -- the path to a free slot of the first bucket
 pub plan_first : (slots : Slots) (first second slot : ℕ) → free_slot slots first ≡ Some slot → plan_for slots first second ≡ Some (record { first = first; second = second; slots = slot ∷ [] })

@@ -1,6 +1,6 @@
 -- Which places are in the table, and which are not.
-use Rattle.silt_cuckoo.proofs.Common.{◌≡◌, ◌≢◌, inl, inr, ℕ, ◌+◌, ◌*◌, ◌/◌, ◌≤◌, Some, None, option_map, sym, ap, ◌∙◌, arith, cases_eq, Slots, Entry, IsTable, HoldsPlace, empty_slots, place_at}
-use Rattle.silt_cuckoo.proofs.Common.{pair_of, table_pairs, AddsPair}
+use Rattle.silt_cuckoo.proofs.Common.{◌≡◌, ◌≢◌, inl, inr, ℕ, ◌+◌, ◌/◌, ◌≤◌, Some, option_map, ap, ◌∙◌, arith, cases_eq, Slots, Entry, IsTable, HoldsPlace, empty_slots, place_at, pair_of}
+use Rattle.silt_cuckoo.proofs.Common.{table_pairs, AddsPair}
 use Rattle.std.proofs.lemmas.Bool.{ne_eqb}
 use Rattle.silt_cuckoo.specs.Slots.{PlacesBelow}
 use Rattle.silt_cuckoo.proofs.Placed.{has_entry, table_pairs-held, table_pairs-not_held, cases_held}
@@ -12,10 +12,7 @@ above_not_held slots bound place below above (slot, is) = let low = below slot p
 
 -- an empty table holds no place
 pub empty_below : (buckets bound : ℕ) → PlacesBelow (empty_slots buckets) bound
-empty_below buckets bound slot place is =
-    let none = entry_at-free (4 * buckets) slot in
-    let h : option_map (λ (e : Entry). e.1) None ≡ Some place = rw none at is in
-    absurd (cc)
+empty_below buckets bound slot place is = search (arith, entry_at-free)
 
 -- a place in the table has a pair
 pub pair_held : (slots : Slots) (slot place : ℕ) → IsTable slots → place_at slots slot ≡ Some place → (pair : ℕ × ℕ) × (table_pairs slots place ≡ Some pair)
@@ -32,9 +29,7 @@ holds_from_pair slots place pair is = elim (cases_held slots place) [
 
 -- after a new place was placed, a place in the table is the new one or was there before
 pub held_before : (old new : Slots) (place first second slot p : ℕ) → IsTable new → AddsPair old new place first second → place_at new slot ≡ Some p → p ≢ place → HoldsPlace old p
-held_before old new place first second slot p table adds is other =
-    let pair = pair_held new slot p table is in
-    holds_from_pair old p pair.0 (sym ((rw (ne_eqb p place other) at (adds p))) ∙ pair.1)
+held_before old new place first second slot p table adds is other = search (arith, pair_held, holds_from_pair, ne_eqb)
 
 -- after a new place all are below the next bound
 pub placed_below : (old new : Slots) (place first second : ℕ) → IsTable new → PlacesBelow old place → AddsPair old new place first second → PlacesBelow new (place + 1)

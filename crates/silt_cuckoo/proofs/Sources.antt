@@ -1,6 +1,7 @@
 -- The slot that the entry of each slot comes from, when entries move along a path.
-use Rattle.silt_cuckoo.proofs.Common.{◌≡◌, ◌≢◌, ◌⊎◌, inl, inr, ℕ, ◌/◌, ◌<◌, ◌==◌, if◌then◌else◌, min, max, List, [], ◌∷◌, length, Option, Some, None, option_map, refl, sym, subst, ap, ◌∙◌, arith}
-use Rattle.silt_cuckoo.proofs.Common.{get_or-set_other, get_or-set_same, length-set, cases_eq, Slots, Entry, IsTable, bucket_count, entry_at, tag_at, place_at, moved_entry, pair_at, pair_of}
+use Rattle.silt_cuckoo.proofs.Common.{◌≡◌, ◌≢◌, ◌⊎◌, inl, inr, ℕ, ◌/◌, ◌<◌, ◌==◌, if◌then◌else◌, min, max, List, [], ◌∷◌, length, Option, Some, None, option_map, refl, sym, subst, ap, ◌∙◌}
+use Rattle.silt_cuckoo.proofs.Common.{arith, get_or-set_other, get_or-set_same, length-set, cases_eq, Slots, Entry, IsTable, bucket_count, entry_at, tag_at, place_at, moved_entry, pair_at}
+use Rattle.silt_cuckoo.proofs.Common.{pair_of}
 use Rattle.silt_cuckoo.proofs.Search.{some_or_none}
 use Rattle.std.proofs.Common.{unwrap_or}
 use Rattle.std.proofs.lemmas.Bool.{eq-eqb, ne_eqb}
@@ -29,18 +30,13 @@ on_same a b path same on = subst (λ x. IsOn x path) same on
 pub source_on : (path : List ℕ) (x : ℕ) → (source path x ≡ x) ⊎ IsOn (source path x) path
 source_on [] x = inl refl
 source_on (s ∷ []) x = inl refl
-source_on (s ∷ u ∷ path) x = elim (cases_eq x u) [
-  | inl same ↦ inr (inl (source_next s u path x same))
-  | inr other ↦
-      let is = source_other s u path x other in
-      elim (source_on (u ∷ path) x) [ inl stays ↦ inl (is ∙ stays) | inr on ↦ inr (inr (on_same (source (u ∷ path) x) (source (s ∷ u ∷ path) x) (u ∷ path) (sym is) on)) ]
-]
+source_on (s ∷ u ∷ path) x = search (arith, source_on (u ∷ path) x, cases_eq, source_next, source_other, on_same)
 
 -- an entry off the path stays
 pub source_off : (path : List ℕ) (x : ℕ) → ¬ IsOn x path → source path x ≡ x
 source_off [] x off = refl
 source_off (s ∷ []) x off = refl
-source_off (s ∷ u ∷ path) x off = source_other s u path x (λ same. off (inr (inl same))) ∙ source_off (u ∷ path) x (λ on. off (inr on))
+source_off (s ∷ u ∷ path) x off = search (arith, source_off (u ∷ path) x, source_other)
 
 -- behind the path's first slot no other entry comes from it
 source_not_first : (s u : ℕ) (path : List ℕ) (y : ℕ) → NoneTwice (s ∷ u ∷ path) → y ≢ s → source (u ∷ path) y ≢ s
@@ -52,29 +48,15 @@ source_not_first s u path y twice other same = elim (source_on (u ∷ path) y) [
 -- but for the path's first slot, no two slots have their entries from one
 pub source_apart : (s : ℕ) (path : List ℕ) (x y : ℕ) → NoneTwice (s ∷ path) → x ≢ s → y ≢ s → source (s ∷ path) x ≡ source (s ∷ path) y → x ≡ y
 source_apart s [] x y twice x_not y_not same = same
-source_apart s (u ∷ path) x y twice x_not y_not same = elim (cases_eq x u) [
-  | inl x_next ↦ elim (cases_eq y u) [
-    | inl y_next ↦ x_next ∙ sym y_next
-    | inr y_other ↦ absurd (source_not_first s u path y twice y_not (sym (source_other s u path y y_other) ∙ sym same ∙ source_next s u path x x_next))
-  ]
-  | inr x_other ↦ elim (cases_eq y u) [
-    | inl y_next ↦ absurd (source_not_first s u path x twice x_not (sym (source_other s u path x x_other) ∙ same ∙ source_next s u path y y_next))
-    | inr y_other ↦ source_apart u path x y twice.1 x_other y_other (sym (source_other s u path x x_other) ∙ same ∙ source_other s u path y y_other)
-  ]
-]
+source_apart s (u ∷ path) x y twice x_not y_not same = search (arith, source_apart u path x y twice.1, cases_eq, source_not_first, source_other, source_next)
 
 -- each entry goes to a slot other than the path's first
 pub target : (slots : Slots) (s : ℕ) (path : List ℕ) (y : ℕ) (e : Entry) → LeadsOn slots (s ∷ path) → NoneTwice (s ∷ path) → entry_at slots y ≡ Some e → (x : ℕ) × (x ≢ s) × (source (s ∷ path) x ≡ y)
-target slots s [] y e leads twice is = (y, λ same. let none = leads in let h : entry_at slots s ≡ Some e = rw same at is in absurd (cc), refl)
+target slots s [] y e leads twice is = search arith
 target slots s (u ∷ path) y e leads twice is = elim (cases_eq y s) [
   | inl same ↦ (u, λ is_s. twice.0 (inl (sym is_s)), source_next s u path u refl ∙ sym same)
   | inr other ↦
-      let rest = target slots u path y e leads.1 twice.1 is in (
-        rest.0,
-        λ is_s. source_not_first s u path y twice other (let off = source_off (u ∷ path) s twice.0 in let there = rest.2 in
-            absurd (other (sym there ∙ ap (source (u ∷ path)) is_s ∙ off))),
-        source_other s u path rest.0 rest.1 ∙ rest.2,
-      )
+      search (arith, target slots u path y e leads.1 twice.1 is, source_not_first, source_off, source_other)
 ]
 
 -- the moves keep the number of slots
@@ -82,7 +64,7 @@ pub length_moved : (slots : Slots) (path : List ℕ) → length (moved_along slo
 unfolding moved_along
 length_moved slots [] = refl
 length_moved slots (s ∷ []) = refl
-length_moved slots (s ∷ u ∷ path) = length-set (moved_along slots (u ∷ path)) u (moved_entry slots s) ∙ length_moved slots (u ∷ path)
+length_moved slots (s ∷ u ∷ path) = search (arith, length_moved slots (u ∷ path), length-set)
 
 -- the place of an entry that moves
 place_moved : (slots : Slots) (s : ℕ) → option_map (λ (e : Entry). e.1) (moved_entry slots s) ≡ place_at slots s

@@ -1,9 +1,8 @@
 -- Whether a bucket has an entry with a tag.
-use Rattle.silt_cuckoo.proofs.Common.{cases_Bool, ◌≡◌, ℕ, ◌+◌, ◌*◌, ◌≤◌, ◌<◌, ◌==◌, not, Bool, true, false, List, [], ◌∷◌, ◌++◌, length, get_or, Option, inl, inr, Some, None, refl, sym, ap, ◌∙◌}
-use Rattle.silt_cuckoo.proofs.Common.{arith, append-nil, cons_option, Candidate, Slot, has_candidates, match_at, matches_in, unpacked, unpacked_all, Slots, entry_at}
+use Rattle.silt_cuckoo.proofs.Common.{cases_Bool, ◌≡◌, ℕ, ◌+◌, ◌*◌, ◌≤◌, ◌<◌, ◌==◌, not, Bool, true, List, [], ◌∷◌, ◌++◌, length, get_or, Option, refl, ap, ◌∙◌, arith, append-nil}
+use Rattle.silt_cuckoo.proofs.Common.{cons_option, Candidate, Slot, has_candidates, match_at, matches_in, unpacked, unpacked_all, Slots, entry_at}
 use Rattle.silt_cuckoo.proofs.Search.{some_or_none}
-use Rattle.std.proofs.Common.{◌||◌, cond, slice_range}
-use Rattle.std.proofs.Common.{is_some, eqb-true, ne_eqb}
+use Rattle.std.proofs.Common.{◌||◌, slice_range, is_some, eqb-true, ne_eqb}
 use Rattle.std.proofs.lemmas.List.Edits.{get_or-between}
 use Rattle.silt_cuckoo.specs.Lookup.{candidates_of}
 use Rattle.silt_cuckoo.specs.Slots.{has_tag}
@@ -24,18 +23,11 @@ some_of_both (x ∷ xs) ys = cc (some_first x (xs ++ ys), some_first x xs)
 
 -- a slot matches if it has the tag
 match_is : (slots : Slots) (tag slot : ℕ) → is_some (match_at slots tag slot) ≡ has_tag tag (entry_at slots slot)
-match_is slots tag slot = elim (some_or_none (entry_at slots slot)) [
-  | inl none ↦ rw none
-  | inr (e, is) ↦ rw is (elim (cases_Bool (e.0 == tag)) [ inl same ↦ rw same | inr other ↦ rw other ])
-]
+match_is slots tag slot = search (arith, some_or_none, cases_Bool)
 
 -- one of four elements that may be there
 four : {X : Type 0} (a b c d : Option X) → (((is_some a || is_some b) || is_some c) || is_some d) ≡ some_in (cons_option a (cons_option b (cons_option c (cons_option d []))))
-four (Some a) b c d = sym (some_first a _)
-four None (Some b) c d = sym (some_first b _)
-four None None (Some c) d = sym (some_first c _)
-four None None None (Some d) = sym (some_first d [])
-four None None None None = refl
+four a b c d = search (arith, some_first)
 
 -- a bucket has a match if one of its four slots has the tag
 pub match_of_four : (slots : List Slot) (bucket tag : ℕ) (d : Slot) (zeroth first second third : Bool) → 4 * bucket + 4 ≤ length slots → let part = slice_range slots (4 * bucket) (4 * bucket + 4) in
@@ -49,8 +41,7 @@ match_of_four slots bucket tag d zeroth first second third there at_0 at_1 at_2 
       at_1 ∙ match_in 1 (s + 1) (omega arith) (omega arith),
       at_2 ∙ match_in 2 (s + 1 + 1) (omega arith) (omega arith),
       at_3 ∙ match_in 3 (s + 1 + 1 + 1) (omega arith) (omega arith),
-    )
-    (four (m s) (m (s + 1)) (m (s + 1 + 1)) (m (s + 1 + 1 + 1)))
+    ) (four (m s) (m (s + 1)) (m (s + 1 + 1)) (m (s + 1 + 1 + 1)))
   where
     m : ℕ → Option Candidate
     m = match_at (unpacked_all slots) tag
@@ -63,14 +54,4 @@ match_of_four slots bucket tag d zeroth first second third there at_0 at_1 at_2 
 pub candidates_of_both : (slots : Slots) (first second : ℕ) (one two : Bool) → one ≡ some_in (matches_in slots first second)
     → two ≡ some_in (matches_in slots second first) → (one || two) ≡ has_candidates slots first second
 unfolding candidates_of
-candidates_of_both slots first second one two one_is two_is =
-    rw (one_is, two_is) (join (matches_in slots first second) (matches_in slots second first) (first == second)
-    (λ same. let is : first ≡ second = eqb-true first second same in ap (λ n. matches_in slots n first) (sym is) ∙ ap (matches_in slots first) is))
-  where
-    twice : (b : Bool) → (b || b) ≡ b
-    twice true = refl
-    twice false = refl
-
-    join : (xs ys : List Candidate) (b : Bool) → (b ≡ true → ys ≡ xs) → (some_in xs || some_in ys) ≡ some_in (xs ++ cond b [] ys)
-    join xs ys false same = sym (some_of_both xs ys)
-    join xs ys true same = ap (λ l. some_in xs || some_in l) (same refl) ∙ twice (some_in xs) ∙ ap some_in (sym (append-nil xs))
+candidates_of_both slots first second one two one_is two_is = search (arith, eqb-true, some_of_both, append-nil)

@@ -1,6 +1,6 @@
 -- Laws of walks.
-use Rattle.silt_cuckoo.proofs.Common.{◌≡◌, ℕ, zero, suc, ◌+◌, ◌<◌, ◌≤◌, List, [], ◌∷◌, ◌++◌, Some, None, option_map, refl, sym, ap, ◌∙◌, arith, ◌-◌, inl, inr, cases_lt, Slots, tag_at, ended_walk}
-use Rattle.silt_cuckoo.proofs.Common.{bucket_after, victim, free_slot}
+use Rattle.silt_cuckoo.proofs.Common.{◌≡◌, ℕ, zero, suc, ◌+◌, ◌<◌, ◌≤◌, List, [], ◌∷◌, ◌++◌, Some, None, option_map, refl, sym, ap, ◌∙◌, arith, ◌-◌, inl, inr, cases_lt, Slots, tag_at}
+use Rattle.silt_cuckoo.proofs.Common.{ended_walk, bucket_after, victim, free_slot}
 use Rattle.silt_cuckoo.specs.Placing.{turns, shortest_walk}
 use Rattle.silt_cuckoo.proofs.Search.{first_at, first_nowhere}
 
@@ -43,9 +43,7 @@ shortest_none slots bucket n before stuck = first_nowhere (ended_walk slots buck
   | inl early ↦ before k low early
   | inr late ↦
       let none = turns_none slots bucket (n + 1) (k - (n + 1)) stuck in
-      let same : n + 1 + (k - (n + 1)) ≡ k = omega arith in
-      let here : turns slots bucket k ≡ None = rw same at none in
-      rw here refl
+      search arith
 ])
 
 -- nor if 128 turns have ended nothing
@@ -86,6 +84,4 @@ pub walk_goes_on : (slots : Slots) (first bucket turn slot : ℕ) (path : List �
     → NotEnded slots first turn → victim slots path bucket turn ≡ Some slot → free_slot slots (tag_at slots slot) ≡ None → NotEnded slots first (turn + 1)
 walk_goes_on slots first bucket turn slot path so_far here none found full n low high =
     let made = turn_made slots first bucket turn slot path so_far here found in
-    let full_here : free_slot slots (bucket_after slots first (path ++ slot ∷ [])) ≡ None = rw made.1 at full in
-    let not_here = not_ended slots first (turn + 1) (path ++ slot ∷ []) made.0 full_here in
-    elim (cases_lt n (turn + 1)) [ inl early ↦ none n low early | inr late ↦ let same : n ≡ turn + 1 = omega arith in rw same not_here ]
+    search (arith, not_ended, cases_lt)

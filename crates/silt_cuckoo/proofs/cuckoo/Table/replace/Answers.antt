@@ -1,8 +1,8 @@
 -- One entry takes a new place.
 use Rattle.silt_cuckoo.proofs.Common.{◌≡◌, ◌/◌, length-set, slice_set, Some, ap, ◌∙◌, IsTable, tag_at, bucket_count, replaced, unpacked_all}
 use Rattle.silt_cuckoo.proofs.Unpacking.{unpacked_all_set}
-use Rattle.silt_cuckoo.proofs.Replaced.{replace_law}
-use Rattle.silt_cuckoo.proofs.Tables.{replaced_table, slot_inside}
+use Rattle.silt_cuckoo.proofs.Replaced.{replace_law, replaced_table}
+use Rattle.silt_cuckoo.proofs.Tables.{slot_inside}
 use Rattle.silt_cuckoo.proofs.cuckoo.Table.replace.Goals as goal
 use Rattle.silt_cuckoo.proofs.cuckoo.Table.replace.Goals.{After-self-1}
 
