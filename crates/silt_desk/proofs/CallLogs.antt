@@ -1,29 +1,22 @@
 -- A log that only grows, one entry more.
-use Rattle.std.proofs.Common.{◌≡◌, ℕ, ◌+◌, ◌<◌, ◌≤◌, ◌==◌, Bool, true, false, List, [], ◌∷◌, ◌++◌, length, refl, ap, sym, subst, arith, inl, length-append, None}
+use Rattle.std.proofs.Common.{◌≡◌, ℕ, ◌+◌, ◌<◌, ◌≤◌, ◌==◌, Bool, true, false, List, [], ◌∷◌, ◌++◌, length, refl, sym, subst, arith, length-append, None, rules}
 use Rattle.std.proofs.lemmas.List.{append-nil}
 use Rattle.std.proofs.lemmas.Bool.Decides.{nat_tests}
 use mathlib.Core.List.{IsPrefix}
 use prog.Atomic.{either}
-use Rattle.logbook.specs.Pages.{Cell, cell, keeps, no_nib, step, Moves, Goes}
+use Rattle.logbook.specs.Pages.{Cell, cell, no_nib, step, Moves, Goes}
 use Rattle.silt_desk.specs.CallLogs.{AddsEntry, CountsLog}
 
 -- of two beginnings of one list the shorter begins the longer
 pub prefix_shorter : {A : Type 0} (xs ys zs : List A) → IsPrefix xs zs → IsPrefix ys zs → length xs ≤ length ys → IsPrefix xs ys
-prefix_shorter [] ys zs p q le = (ys, refl)
-prefix_shorter (x ∷ xs) [] zs p q le = absurd (omega arith)
-prefix_shorter (x ∷ xs) (y ∷ ys) [] p q le = absurd (cc (p.1))
-prefix_shorter (x ∷ xs) (y ∷ ys) (z ∷ zs) p q le =
-    let heads : x ≡ y = cc (p.1, q.1) in
-    let rest = prefix_shorter xs ys zs (p.0, cc (p.1)) (q.0, cc (q.1)) (omega arith) in
-    (rest.0, cc (heads, rest.1))
+prefix_shorter (x ∷ xs) (y ∷ ys) (z ∷ zs) p q le = search (arith, prefix_shorter xs ys zs (p.0, cc (p.1)) (q.0, cc (q.1)))
+prefix_shorter xs ys zs p q le = search (rules, arith)
 
 -- a beginning as long as the whole is the whole
 pub prefix_whole : {A : Type 0} (xs ys : List A) → IsPrefix xs ys → length ys ≤ length xs → xs ≡ ys
 prefix_whole [] [] p le = refl
-prefix_whole [] (y ∷ ys) p le = absurd (omega arith)
-prefix_whole (x ∷ xs) [] p le = absurd (cc (p.1))
-prefix_whole (x ∷ xs) (y ∷ ys) p le =
-    let rest = prefix_whole xs ys (p.0, cc (p.1)) (omega arith) in cc (p.1, rest)
+prefix_whole (x ∷ xs) (y ∷ ys) p le = search (arith, prefix_whole xs ys (p.0, cc (p.1)))
+prefix_whole xs ys p le = search rules
 
 -- ---- the step that appends an entry
 
@@ -40,26 +33,10 @@ pub adds_goes : {E : Type 0} (log v : List E) (e : E) (old : ℕ) → length v �
 adds_goes log v e old len pre true is =
     let here : length log ≡ old = grind (arith, nat_tests) in
     let same : v ≡ log = prefix_whole v log pre (omega arith) in
-    let n : either (length log == old) (old + 1) (length log) ≡ length (log ++ e ∷ []) = rw is (omega (arith, length-append log (e ∷ []))) in (
-      keeps,
-      e ∷ [],
-      None,
-      tt,
-      record { words = ap (λ (k : ℕ). (k, true) ∷ (0, true) ∷ []) n },
-      inl (refl, refl),
-      rw is (ap (λ w. w ++ e ∷ []) (sym same)),
-    )
+    let n : either (length log == old) (old + 1) (length log) ≡ length (log ++ e ∷ []) = rw is (omega (arith, length-append log (e ∷ []))) in search arith
 adds_goes log v e old len pre false is =
     let all : log ++ [] ≡ log = append-nil log in
-    let n : either (length log == old) (old + 1) (length log) ≡ length (log ++ []) = rw is (ap length (sym all)) in (
-      keeps,
-      [],
-      None,
-      tt,
-      record { words = ap (λ (k : ℕ). (k, true) ∷ (0, true) ∷ []) n },
-      inl (refl, refl),
-      rw is (ap length all),
-    )
+    search (arith, either)
 
 -- whatever the book is, the exchange adds the entry to all that was seen, or finds that the history is longer
 pub adds_moves : {E : Type 0} (v : List E) (e : E) (old : ℕ) → length v ≡ old

@@ -1,11 +1,12 @@
 -- A book and a share name no thread, so a reference to one may go to another thread, and one to a desk too.
+use Rattle.std.proofs.Common.{arith}
 use mathlib.Core.List.{List, [], ◌∷◌}
 use Prim.Native.Nat.{ℕ, zero, suc}
 use base.Shift.{Keyless}
 use denote.RattleType.{RattleType}
 use denote.Struct.Declared.{fields, shape}
 use denote.Struct.Struct.{Struct}
-use denote.Param.Send.{IsSend, IsSync, part_keyless}
+use denote.Param.Send.{IsSend, IsSync, part_keyless, AllSync, sendable, view_sync, struct_sync, recorded_sync}
 use Rattle.std.specs.Sync.Ledger.{chain, row, Rule, book_owns, share_owns}
 use Rattle.std.specs.declared.sync.ledger.Ledger.{Ghosts}
 use Rattle.silt_disk.specs.declared.disk.Disk as Disk
@@ -17,11 +18,8 @@ use Rattle.silt_desk.specs.contracts.seat.Books as Books
 use Rattle.silt_desk.specs.contracts.seat.Books.TheInside as BooksInside
 use Rattle.silt_desk.specs.contracts.seat.Ledgers as Ledgers
 use Rattle.silt_desk.specs.contracts.seat.Ledgers.TheInside as LedgersInside
-use Rattle.silt_desk.specs.contracts.seat.CallsOf as CallsOf
-use Rattle.silt_desk.specs.contracts.seat.AcceptedOf as AcceptedOf
 use Rattle.silt_desk.specs.contracts.seat.CallsOfLedger.TheImpl as calls
 use Rattle.silt_desk.specs.contracts.seat.AcceptedOfLedger.TheImpl as accepted
-use denote.Param.Send.{AllSync, sendable, view_sync, struct_sync, recorded_sync}
 use Rattle.silt_store_set.proofs.store_core.Core.TheSendSync.{the_sync as core_sync}
 use Rattle.silt_desk.proofs.desk.Desk.TheSendSync.{the_send}
 use Rattle.std.specs.contracts.sync.ledger.Book as Book
@@ -64,10 +62,7 @@ books_inside_sync N h =
     let B = BooksInside.the_type N h in
     let k = calls.ghosts N h calls.no_dict in
     let a = accepted.ghosts N h accepted.no_dict in
-    let all : AllSync (fields B) = (
-      book_sync (CallsOf.the_row N) k,
-      (book_sync (AcceptedOf.the_row N) a, (share_sync (CallsOf.the_row N) k, (share_sync (AcceptedOf.the_row N) a, tt))),
-    ) in
+    let all : AllSync (fields B) = search (arith, book_sync, share_sync) in
     recorded_sync (Struct (shape B)) B.D B.to B.to_one (struct_sync (shape B) all)
 
 books_sync : (N : RattleType) (h : DeskId.Ghosts N.Denot) → IsSync (Books.the_row N h)

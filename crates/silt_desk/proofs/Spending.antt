@@ -1,5 +1,6 @@
 -- What a call costs, from what the store does.
-use Rattle.std.proofs.Common.{◌≡◌, ◌≢◌, ℕ, ◌+◌, ◌*◌, ◌≤◌, Bool, true, false, IsTrue, List, [], ◌∷◌, length, Some, None, inl, inr, refl, ap, sym, ◌∙◌, subst, arith}
+use Rattle.std.proofs.Common.{◌≡◌, ◌≢◌, ℕ, ◌+◌, ◌*◌, ◌≤◌, true, false, List, [], ◌∷◌, length, Some, None, inl, inr, refl, ap, sym, ◌∙◌, arith, rules}
+use Rattle.std.proofs.lemmas.Bool.{cases_Bool}
 use Rattle.silt_disk.specs.Disk.{MakesAtMost}
 use Rattle.silt_disk.specs.declared.disk.Disk.{Ghosts}
 use Rattle.silt_disk.proofs.Costs.{most_made, most_more, most_none}
@@ -9,7 +10,7 @@ use Rattle.silt_event.specs.Events.{PlainReply, accepted_command, is_fault, plai
 use Rattle.silt_event.specs.declared.event.Event.{Event}
 use Rattle.silt_event.specs.declared.event.Event.TheVariants.{Put, Delete, Swap, Flush, Get, Convert, Merge}
 use Rattle.silt_event.specs.declared.progress.Progress.{Progress as ProgressOf}
-use Rattle.silt_event.specs.declared.progress.Progress.TheVariants.{Idle, Waiting, Moved, Finished}
+use Rattle.silt_event.specs.declared.progress.Progress.TheVariants.{Idle, Moved, Finished}
 use Rattle.silt_event.specs.declared.refusal.Refusal.{Refusal}
 use Rattle.silt_event.specs.declared.reply.Reply.{Reply}
 use Rattle.silt_event.specs.declared.reply.Reply.TheVariants.{Accepted, Acknowledged, Found, Absent, Differs, Progress, Refused}
@@ -35,22 +36,12 @@ steps_sync reply = omega arith
 module _ {D : Type 0} where
   -- no event makes more writes and syncs than a row for which a log is frozen
   event_writes : (core : CoreState D) (event : Event) → most_writes core event ≤ 7
-  event_writes core Flush = omega (arith, waits_most core.waiting)
-  event_writes core (Get key) = omega arith
   event_writes core Convert = omega (arith, steps_write (convert_due core))
-  event_writes core Merge = omega arith
-  event_writes core (Put key value) = omega (arith, waits_most core.waiting)
-  event_writes core (Delete key) = omega (arith, waits_most core.waiting)
-  event_writes core (Swap key expected value) = omega (arith, waits_most core.waiting)
+  event_writes core event = omega (arith, waits_most core.waiting)
 
   event_syncs : (core : CoreState D) (event : Event) → most_syncs core event ≤ 6
-  event_syncs core Flush = omega (arith, waits_most core.waiting)
-  event_syncs core (Get key) = omega arith
   event_syncs core Convert = omega (arith, steps_sync (convert_due core))
-  event_syncs core Merge = omega arith
-  event_syncs core (Put key value) = omega (arith, waits_most core.waiting)
-  event_syncs core (Delete key) = omega (arith, waits_most core.waiting)
-  event_syncs core (Swap key expected value) = omega (arith, waits_most core.waiting)
+  event_syncs core event = omega (arith, waits_most core.waiting)
 
 module _ {D F : Type 0} (facts : Ghosts D F) (old new : CoreState D) where
   abbrev Makes_most : ℕ → ℕ → Type 0
@@ -75,26 +66,14 @@ module _ {D F : Type 0} (facts : Ghosts D F) (old new : CoreState D) where
 
   -- a call that changes nothing
   spends_nothing : (reply : PlainReply) → finished_by reply ≡ 0 → new ≡ old → Spends (seen facts old) (seen facts new) (reply ∷ [])
-  spends_nothing reply none same = subst (λ (core : CoreState D). Spends (seen facts old) (seen facts core) (reply ∷ [])) (sym same) (record {
-    freezes = 0;
-    fails = 0;
-    few = omega arith;
-    once = omega arith;
-    turns = λ works. omega (arith, none);
-    made = most_none;
-  })
+  spends_nothing reply none same = search (arith, most_none)
 
   -- only a reply with a fault of the device makes a store fail
   keeps_failed : (event : Event) (reply : Reply F) → Does facts old new event reply → is_fault reply ≡ false → new.failed ≡ old.failed
-  keeps_failed event reply does is =
-      let go : (b : Bool) → old.failed ≡ b → (d : Bool) → new.failed ≡ d → new.failed ≡ old.failed = elim [
-        | true ↦ λ failed d ends. ap (λ (core : CoreState D). core.failed) (does.failed failed).0
-        | false ↦ λ works. elim [
-          | false ↦ λ still. still ∙ sym works
-          | true ↦ λ fails. absurd (let no : IsTrue (is_fault reply) = does.faulted works fails in cc)
-        ]
-      ] in
-      go old.failed refl new.failed refl
+  keeps_failed event reply does is = elim (cases_Bool old.failed) [
+    | inl failed ↦ ap (λ (core : CoreState D). core.failed) (does.failed failed).0
+    | inr works ↦ search (arith, cases_Bool, does.faulted)
+  ]
 
   -- a call that writes no row and finishes nothing
   spends_still : (event : Event) (reply : Reply F) → Does facts old new event reply → is_fault reply ≡ false → accepted_command event reply ≡ [] → is_finished reply ≡ false
@@ -119,11 +98,10 @@ module _ {D F : Type 0} (facts : Ghosts D F) (old new : CoreState D) where
   spends_refused : (event : Event) (refusal : Refusal F) → Does facts old new event (Refused refusal) → Spends (seen facts old) (seen facts new) (plain {F = F} (Refused refusal) ∷ [])
   spends_refused event refusal does =
       let nothing : new ≡ old → Spends (seen facts old) (seen facts new) (plain {F = F} (Refused refusal) ∷ []) = spends_nothing (plain {F = F} (Refused refusal)) refl in
-      let go : (b : Bool) → old.failed ≡ b → (d : Bool) → new.failed ≡ d → Spends (seen facts old) (seen facts new) (plain {F = F} (Refused refusal) ∷ []) = elim [
-        | true ↦ λ failed d ends. nothing (does.failed failed).0
-        | false ↦ λ works. elim [
-          | false ↦ λ still. nothing (does.stays refl (still ∙ sym works))
-          | true ↦ λ fails. record {
+      elim (cases_Bool old.failed) [
+        | inl failed ↦ nothing (does.failed failed).0
+        | inr works ↦ elim (cases_Bool new.failed) [
+          | inl fails ↦ record {
             freezes = 0;
             fails = 1;
             few = omega arith;
@@ -131,46 +109,36 @@ module _ {D F : Type 0} (facts : Ghosts D F) (old new : CoreState D) where
             turns = λ still. absurd (let no : true ≡ false = sym fails ∙ still in cc);
             made = as_seen (most_more does.made (omega (arith, event_writes old event)) (omega (arith, event_syncs old event)));
           }
+          | inr still ↦ nothing (does.stays refl (still ∙ sym works))
         ]
-      ] in
-      go old.failed refl new.failed refl
+      ]
 
   -- a step of conversion
   spends_convert : (progress : ProgressOf) → Does facts old new Convert (Progress progress) → Spends (seen facts old) (seen facts new) (Progress progress ∷ [])
-  spends_convert Finished does =
-      spends_so (Progress Finished) 0 (keeps_failed Convert (Progress Finished) does refl) (omega arith)
-      (λ works. omega (arith, ap (λ (b : Body). b.generation) does.cause.2.body)) (most_made does.made (omega arith) (omega arith))
-  spends_convert Moved does = spends_still Convert (Progress Moved) does refl refl refl refl (most_made does.made (omega arith) (omega arith))
-  spends_convert Idle does = spends_still Convert (Progress Idle) does refl refl refl refl (most_made does.made (omega arith) (omega arith))
-  spends_convert Waiting does = spends_still Convert (Progress Waiting) does refl refl refl refl (most_made does.made (omega arith) (omega arith))
+  spends_convert Finished does = search (arith, spends_so, keeps_failed, most_made)
+  spends_convert progress does = spends_still Convert (Progress progress) does refl refl refl refl (most_made does.made (omega arith) (omega arith))
 
   -- a step of merging
   spends_merge : (progress : ProgressOf) → Does facts old new Merge (Progress progress) → Spends (seen facts old) (seen facts new) (Progress progress ∷ [])
-  spends_merge Finished does =
-      spends_so (Progress Finished) 0 (keeps_failed Merge (Progress Finished) does refl) (omega arith)
-      (λ works. omega (arith, ap (λ (b : Body). b.generation) does.cause.2.body)) (most_made does.made (omega arith) (omega arith))
+  spends_merge Finished does = search (arith, spends_so, keeps_failed, most_made)
   spends_merge Moved does = spends_still Merge (Progress Moved) does refl refl refl refl (most_made does.made.3 (omega (arith, does.made.1)) (omega arith))
-  spends_merge Idle does = spends_still Merge (Progress Idle) does refl refl refl refl (most_made does.made (omega arith) (omega arith))
-  spends_merge Waiting does = spends_still Merge (Progress Waiting) does refl refl refl refl (most_made does.made (omega arith) (omega arith))
+  spends_merge progress does = spends_still Merge (Progress progress) does refl refl refl refl (most_made does.made (omega arith) (omega arith))
 
   -- what any call costs
   pub spends_by : (event : Event) (reply : Reply F) → Does facts old new event reply → Spends (seen facts old) (seen facts new) (plain reply ∷ [])
-  spends_by (Put key value) (Accepted n) does = spends_row n key.0 _ (keeps_failed (Put key value) (Accepted n) does refl) does.cause.1 does.made
-  spends_by (Delete key) (Accepted n) does = spends_row n key.0 _ (keeps_failed (Delete key) (Accepted n) does refl) does.cause.1 does.made
-  spends_by (Swap key expected (Some value)) (Accepted n) does =
-      spends_row n key.0 _ (keeps_failed (Swap key expected (Some value)) (Accepted n) does refl) does.cause.1.1 does.made
-  spends_by (Swap key expected None) (Accepted n) does = spends_row n key.0 _ (keeps_failed (Swap key expected None) (Accepted n) does refl) does.cause.1.1 does.made
+  spends_by (Put key value) (Accepted n) does = search (arith, spends_row, keeps_failed)
+  spends_by (Delete key) (Accepted n) does = search (arith, spends_row, keeps_failed)
+  spends_by (Swap key expected (Some value)) (Accepted n) does = search (arith, spends_row, keeps_failed)
+  spends_by (Swap key expected None) (Accepted n) does = search (arith, spends_row, keeps_failed)
   spends_by Flush (Acknowledged n) does =
-      spends_still Flush (Acknowledged n) does refl refl refl refl
-      (most_made does.made (waits_most old.waiting) (omega (arith, waits_most old.waiting)))
+      spends_still Flush (Acknowledged n) does refl refl refl refl (most_made does.made (waits_most old.waiting) (omega (arith, waits_most old.waiting)))
   spends_by (Get key) (Found value) does = spends_nothing (Found value) refl does.cause.1
   spends_by (Get key) Absent does = spends_nothing Absent refl does.cause.1
   spends_by (Swap key expected value) Differs does = spends_nothing Differs refl does.cause.1
   spends_by Convert (Progress progress) does = spends_convert progress does
   spends_by Merge (Progress progress) does = spends_merge progress does
   spends_by event (Refused refusal) does = spends_refused event refusal does
-  spends_by (Swap key expected value) reply does = absurd does.cause.1
-  spends_by event reply does = absurd does.cause
+  spends_by event reply does = search rules
 
 -- ---- a batch
 
@@ -178,13 +146,7 @@ module _ {D F : Type 0} (facts : Ghosts D F) (old new : CoreState D) where
 batch_totals : (numbers : List ℕ) (settled : ℕ) → (total_by writes_by (batch_replies numbers settled) ≡ 2 * length numbers + 1)
     × (total_by syncs_by (batch_replies numbers settled) ≡ 2) × (total_by finished_by (batch_replies numbers settled) ≡ 0)
 batch_totals [] settled = (omega arith, omega arith, omega arith)
-batch_totals (n ∷ numbers) settled =
-    let rest = batch_totals numbers settled in
-    (omega (arith, rest.0), omega (arith, rest.1), omega (arith, rest.2))
+batch_totals (n ∷ numbers) settled = search (arith, batch_totals numbers settled)
 
 pub batch_cost : BatchCostLaw
-batch_cost old new numbers settled spends works same =
-    let totals = batch_totals numbers settled in
-    let fails : spends.fails ≡ 0 = omega (arith, spends.once, ap failing works) in
-    let freezes : spends.freezes ≡ 0 = omega (arith, spends.turns works, same, totals.2) in
-    most_more spends.made (omega (arith, totals.0, fails, freezes)) (omega (arith, totals.1, fails, freezes))
+batch_cost old new numbers settled spends works same = search (arith, batch_totals, most_more, spends.turns)

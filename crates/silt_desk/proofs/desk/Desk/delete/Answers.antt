@@ -1,24 +1,13 @@
 use Rattle.std.proofs.Common.{◌∙◌, ap}
 use Rattle.silt_store_set.specs.Replies.{change_reply}
-use Rattle.silt_event.specs.declared.event.Event.TheVariants.{Delete}
-use Rattle.silt_desk.specs.Seeing.{seen}
-use Rattle.silt_desk.proofs.Serving.{change_plain, keeps_agreeing, keeps_counting, serves}
+use Rattle.silt_desk.proofs.Serving.{change_plain, keeps, serves}
 use Rattle.silt_desk.proofs.desk.Desk.delete.Goals as goal
 
 pub returns : goal.returns
-returns g c = rw (← c.self.view_is) (serves g.D.Disk g.T.Trace
-    c.self.inside.core c.delete-answer.new.self c.self.inside.trace c.note.new.trace c.self.inside.ledgers c.note.new.ledgers c.args.seat.now c.note.new.seat (Delete c.args.key.now)
-    (change_reply c.delete-answer.result) (change_reply c.plain.result) (ap change_reply c.plain.ensures ∙ change_plain c.delete-answer.result) c.delete-answer.ensures c.note.ensures)
+returns g c = rw (← c.self.view_is) (serves g.D.Disk g.T.Trace _ _ _ _ c.self.inside.ledgers c.note.new.ledgers _ _ _ _ _
+    (ap change_reply c.plain.ensures ∙ change_plain c.delete-answer.result) c.delete-answer.ensures c.note.ensures)
 
 pub invariant_of-self : goal.invariant_of-self
-invariant_of-self g c = (
-  keeps_agreeing g.D.Disk g.T.Trace
-      c.self.inside.core c.delete-answer.new.self c.self.inside.trace c.note.new.trace c.self.inside.ledgers c.note.new.ledgers c.args.seat.now c.note.new.seat (Delete c.args.key.now)
-      g.T.Trace.agrees (λ held call more step. g.met.T.Trace.agrees_after c.self.inside.trace c.note.new.trace call
-      (seen g.D.Disk c.self.inside.core) (seen g.D.Disk c.delete-answer.new.self) held more step)
-      (change_reply c.delete-answer.result) (change_reply c.plain.result) (ap change_reply c.plain.ensures ∙ change_plain c.delete-answer.result)
-      c.delete-answer.ensures c.note.ensures c.self.invariant.0,
-  keeps_counting g.T.Trace.counts g.T.Trace c.self.inside.trace c.note.new.trace c.self.inside.ledgers c.note.new.ledgers c.args.seat.now c.note.new.seat (Delete c.args.key.now)
-      (λ call n m k l held more calls accepted. g.met.T.Trace.counts_after c.self.inside.trace c.note.new.trace call n m k l held more calls accepted)
-      (change_reply c.plain.result) c.note.ensures c.self.invariant.1,
-)
+invariant_of-self g c =
+    keeps g.D.Disk g.T.Trace _ _ _ _ _ _ c.args.seat.now c.note.new.seat _ g.met.T.Trace.agrees_after g.met.T.Trace.counts_after _ _
+    (ap change_reply c.plain.ensures ∙ change_plain c.delete-answer.result) c.delete-answer.ensures c.note.ensures c.self.invariant
