@@ -147,15 +147,6 @@ module _ (content : Content) (s : EngineState) where
 
   -- ---- rows of hash stores
 
-  -- a row of another kind counts for nothing
-  pub notes_dropped : (row : StoredRow) (spots : BTreeMap Key Spot) → (IsTrue content.honest → has_known_kind row ≡ false) → NotesRows content s (filter has_known_kind (row ∷ [])) spots spots
-  notes_dropped row spots unknown = record {
-    spots = λ are. are;
-    notes = λ h above behind over.
-        let none : filter has_known_kind (row ∷ []) ≡ [] = rw (unknown h) refl in
-        subst (λ (l : List StoredRow). Overlays content s (map_after above (map command_of l)) behind spots) (sym none) over;
-  }
-
   -- a row of a known kind was noted
   pub notes_kept : (row : StoredRow) (key : Key) (spot : Spot) (old new : BTreeMap Key Spot) → IsSpotOf s spot
       → (IsTrue content.honest → has_known_kind row ≡ true) → (IsTrue content.honest → row.key ≡ key.0)

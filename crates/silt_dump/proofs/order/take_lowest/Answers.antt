@@ -20,12 +20,11 @@ below_lt Greater lower = absurd (let no : false ≡ true = lower in cc)
 
 -- what is below the lowest key is below all of them
 below_all : (spots : BTreeMap Key Spot) (next first q : Key) → IsLowerBound key_cmp spots first → IsBelow next first → IsSome (tree.get key_cmp spots q) → IsBelow next q
-below_all spots next first q least below some = go (compared first q)
-  where
-    go : IsBelow first q ⊎ ((first.0 ≡ q.0) ⊎ IsBelow q first) → IsBelow next q
-    go (inl lower) = below_trans next first q below lower
-    go (inr (inl same)) = subst (λ (bytes : List ℕ). slice_cmp nat_cmp next.0 bytes ≡ Less) same below
-    go (inr (inr higher)) = absurd (let no : true ≡ false = sym (ap is_gt (below_greater first q higher)) ∙ least q some in cc)
+below_all spots next first q least below some = elim (compared first q) [
+  | inl lower ↦ below_trans next first q below lower
+  | inr (inl same) ↦ subst (λ (bytes : List ℕ). slice_cmp nat_cmp next.0 bytes ≡ Less) same below
+  | inr (inr higher) ↦ absurd (let no : true ≡ false = sym (ap is_gt (below_greater first q higher)) ∙ least q some in cc)
+]
 
 pub returns-in-Some : goal.returns-in-Some
 returns-in-Some c =
