@@ -74,13 +74,12 @@ module _ (old new : Content) (s : EngineState) (after : LogStoreState) (more : L
     named = named;
     sound = λ h. rw (← (all (was h))) at (sound (was h));
     said = λ h. stands.said (was h);
-    counted = λ h.
-        cc (
-          stands.counted (was h),
-          count_law (rows_of (shown_stores old s) ++ waiting_rows old s.active.log) more,
-          append_assoc (rows_of (shown_stores old s)) (waiting_rows old s.active.log) more,
-          waits (was h),
-        );
+    counted = λ h. cc (
+      stands.counted (was h),
+      count_law (rows_of (shown_stores old s) ++ waiting_rows old s.active.log) more,
+      append_assoc (rows_of (shown_stores old s)) (waiting_rows old s.active.log) more,
+      waits (was h),
+    );
   }
 
   -- the stores advance by the commands of the rows
@@ -93,8 +92,7 @@ module _ (old new : Content) (s : EngineState) (after : LogStoreState) (more : L
       rest = ap (map command_of) (waits h) ∙ map-append command_of (waiting_rows old s.active.log) more;
       base =
           base_is new (with_active s after charge)
-          ∙ ap (λ (t : Stores). map_of_rows (rows_of t))
-          (shown_are new (with_active s after charge) (shown_stores old s) (named_shape s.manifest.shape s.manifest.current old.shown)
+          ∙ ap (λ (t : Stores). map_of_rows (rows_of t)) (shown_are new (with_active s after charge) (shown_stores old s) (named_shape s.manifest.shape s.manifest.current old.shown)
           (named_body s.manifest.shape s.manifest.current old.shown) named (there h))
           ∙ sym (base_is old s);
     };
@@ -172,12 +170,10 @@ module _ (old new : Content) (s : EngineState) (after : LogStoreState) (kind : K
   -- the row was not taken
   module _ (keeps : KeepsStore old new s.active after) where
     pub not_appended : Advances [] old new s (with_active s after s.charge)
-    not_appended = extended old new s after [] s.charge stands sizes changed (ap (λ (l : LogState). l.shape) keeps.log.log)
-        (ap (λ (l : LogState). l.region) keeps.log.log) keeps.stands images keeps.log.settled
-        (λ h. keeps.log.all h ∙ sym (append-nil (all_rows old s.active.log)))
-        (λ h. subst (λ (rows : List StoredRow). IsSound (with_log_rows s.manifest.current.active rows (shown_stores old s))) (sym (append-nil (all_rows old s.active.log)))
-        (subst (λ (n : ℕ). IsSound (with_log_rows n (all_rows old s.active.log) (shown_stores old s))) stands.whole.active_region (stands.sound h)))
-        (let none : put_count [] ≡ 0 = refl in omega (arith, none)) stands.whole.most
+    not_appended = extended old new s after [] s.charge stands sizes changed (ap (λ (l : LogState). l.shape) keeps.log.log) (ap (λ (l : LogState). l.region) keeps.log.log) keeps.stands
+        images keeps.log.settled (λ h. keeps.log.all h ∙ sym (append-nil (all_rows old s.active.log))) (λ h. subst (λ (rows : List StoredRow). IsSound (with_log_rows s.manifest.current.active
+        rows (shown_stores old s))) (sym (append-nil (all_rows old s.active.log))) (subst (λ (n : ℕ). IsSound (with_log_rows n (all_rows old s.active.log) (shown_stores old s)))
+        stands.whole.active_region (stands.sound h))) (let none : put_count [] ≡ 0 = refl in omega (arith, none)) stands.whole.most
 
 -- ---- a row that is taken by the active log or the next one, and one that is not
 
@@ -195,9 +191,8 @@ pub waits_alone : (command : Command) (old new : Content) (before after : Engine
 waits_alone command old new before after moves waits = search (arith, append_cancel_right)
 
 -- the record that is current after the next log took the row, and what waits then
-pub turns_for : (command : Command) (old middle_content new : Content) (before middle after : EngineState) (next : NextLog) (key : List ℕ)
-    → SameDisk old middle_content → NeedsNext old before key → (is : IsNextLog before next)
-    → HasFrozen next middle_content before middle → after.manifest ≡ middle.manifest → Advances (command ∷ []) old new before after
+pub turns_for : (command : Command) (old middle_content new : Content) (before middle after : EngineState) (next : NextLog) (key : List ℕ) → SameDisk old middle_content
+    → NeedsNext old before key → (is : IsNextLog before next) → HasFrozen next middle_content before middle → after.manifest ≡ middle.manifest → Advances (command ∷ []) old new before after
     → (IsTrue middle_content.honest → waiting_commands new after ≡ waiting_commands middle_content middle ++ command ∷ []) → TurnsFor old new before after key command
 turns_for command old middle_content new before middle after next key disk needs is frozen same goes waits = record {
   needs = needs;
@@ -233,7 +228,5 @@ module _ {D F : Type 0} (facts : Ghosts D F) (old new : D) (s : EngineState) (af
       → LeavesOnly (facts.content new) (λ image. log_rows s.active.log.shape s.active.log.region image ≡ settled_rows (facts.content old) s.active.log)
       → after ≡ s.active → (error : TakeError F) → FailsTake facts old new s.active after key.0 error → TakeCause facts old new s (with_active s after s.charge) key.0 error
   not_taken stands sizes changes images same Full fails = ((ap (λ (l : LogStoreState). with_active s l s.charge) same, fails.0), λ h. cannot_take _ s key.0 stands (fails.1 h))
-  not_taken stands sizes changes images same (Read fault) fails = ((ap (λ (l : LogStoreState). with_active s l s.charge) same, fails.0), fails.1)
-  not_taken stands sizes changes images same (Write fault) fails =
-      broke_off facts old new s _ fault (record { size = sizes; honest = changes.honest }) stands fails.2
-      (not_appended _ _ s after kind key value 0 stands sizes fails.0.room changes images fails.1)
+  not_taken stands sizes changes images same (Read fault) fails = search arith
+  not_taken stands sizes changes images same (Write fault) fails = search (arith, broke_off, not_appended)

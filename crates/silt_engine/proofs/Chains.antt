@@ -1,6 +1,6 @@
 -- One call after another.
-use Rattle.silt_engine.proofs.Common.{arith, IsTrue, List, [], ◌++◌, ap, sym, ◌∙◌, subst, append_assoc, Content, Shape, Command, Map, map_after, StandsFor, image_map, map_after-append}
-use Rattle.silt_engine.proofs.Common.{EngineState, Stands, base_map, full_image, waiting_commands, Advances, Breaks, HoldsPrefix, MovesIntoBase, Remaps, SameDisk}
+use Rattle.silt_engine.proofs.Common.{arith, IsTrue, List, [], ◌++◌, sym, ◌∙◌, subst, append_assoc, Content, Shape, Command, Map, StandsFor, image_map, map_after-append, EngineState, Stands}
+use Rattle.silt_engine.proofs.Common.{base_map, full_image, waiting_commands, Advances, Breaks, HoldsPrefix, MovesIntoBase, Remaps, SameDisk}
 use Rattle.std.proofs.lemmas.List.{append-nil}
 use Rattle.silt_engine.proofs.Facts.{base_safe, full_map}
 
@@ -20,8 +20,7 @@ pub moves_trans : (one two : List Command) (a b c : Content) (first second third
     → MovesIntoBase two b c second third → MovesIntoBase (one ++ two) a c first third
 moves_trans one two a b c first second third m n = record {
   moved = m.moved ++ n.moved;
-  rest =
-      cc (append_assoc m.moved n.moved (waiting_commands c third), n.rest, append_assoc m.moved (waiting_commands b second) two, m.rest, append_assoc (waiting_commands a first) one two);
+  rest = cc (append_assoc m.moved n.moved (waiting_commands c third), n.rest, append_assoc m.moved (waiting_commands b second) two, m.rest, append_assoc (waiting_commands a first) one two);
   base = cc (n.base, m.base, map_after-append (base_map a first) m.moved n.moved);
 }
 
@@ -46,9 +45,7 @@ breaks_after a b c first second same later m breaks = record {
           rest = begun.begins.rest;
           is = cc (append_assoc moves.moved begun.kept begun.begins.rest, begun.begins.is, moves.rest, append-nil (waiting_commands a first));
         };
-        stands = subst (λ (m : Map). StandsFor first.manifest.shape m image) (ap (λ (base : Map). map_after base begun.kept) moves.base
-            ∙ sym (map_after-append (base_map a first) moves.moved begun.kept))
-            (subst (λ (s : Shape). StandsFor s (map_after (base_map b second) begun.kept) image) m.shape begun.stands);
+        stands = search (arith, map_after-append);
       };
 }
 

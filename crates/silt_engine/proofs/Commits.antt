@@ -54,13 +54,7 @@ module _ (old : Content) (s : EngineState) (next : NextLog) (digests : Digests) 
   t_body = named_body _ _ _
 
   freezes : FreezesActive (shown_stores old s).body next.body
-  freezes = rw t_body
-      (record {
-        frozen = ap (λ (b : Body). b.frozen) emptied.follows.body;
-        hashed = ap (λ (b : Body). b.hashed) emptied.follows.body;
-        sorted = ap (λ (b : Body). b.sorted) emptied.follows.body;
-        sorted_count = ap (λ (b : Body). b.sorted_count) emptied.follows.body;
-      })
+  freezes = search (arith, t_body)
 
   -- the stores under it
   abbrev frozen_stores : Stores

@@ -107,8 +107,7 @@ module _ (content : Content) (s : EngineState) (stands : Stands content s) (conv
   table_of h =
       let log_shape : (oldest_log s).log.shape ≡ t.shape = oldest_shape _ s stands way.some_frozen ∙ sym t_shape in
       let indexed = (oldest_frozen _ s stands way.some_frozen).indexed in
-      rw (← log_shape)
-      (record {
+      rw (← log_shape) (record {
         count = subst (λ (sh : Shape). IsBucketCount sh.buckets) (sym log_shape) (bucket_count_is t.shape.buckets (whole_law content.shown t (shown_named content s stands h)).limits.buckets);
         known = indexed.known h;
         indexed = indexed.indexed h;
@@ -153,8 +152,7 @@ module _ (content : Content) (s : EngineState) (stands : Stands content s) (conv
         → charge ≡ put_count (rows_of ending_stores ++ waiting_rows content s.active.log)
     ending_counted h charge is =
         let waiting : List StoredRow = waiting_rows content s.active.log in
-        let part_puts : conversion.puts ≡ put_count (known_rows ending_part) =
-        cc (all_charged content (oldest_log s) conversion done has_written h, same_shape) in
+        let part_puts : conversion.puts ≡ put_count (known_rows ending_part) = cc (all_charged content (oldest_log s) conversion done has_written h, same_shape) in
         omega (
           arith,
           is,

@@ -35,8 +35,7 @@ in_region : (shape : Shape) (region slot : ℕ) (before image : List ℕ) → sl
     → Torn (hash_slot_at shape region slot) (row_len shape) before image → Torn (hash_at shape region) (hash_size shape) before image
 in_region shape region slot before image below torn =
     torn_wider (hash_at shape region) (hash_size shape) (omega arith)
-    (omega (arith, slot_inside shape region slot (hash_at shape region + 4 * shape.buckets * row_len shape) (omega arith) below, up_least (4 * shape.buckets * row_len shape)))
-    torn
+    (omega (arith, slot_inside shape region slot (hash_at shape region + 4 * shape.buckets * row_len shape) (omega arith) below, up_least (4 * shape.buckets * row_len shape))) torn
 
 -- ---- a slot is written
 

@@ -1,10 +1,10 @@
 -- The steps of a conversion, at their exits.
-use Rattle.silt_engine.proofs.Common.{◌≡◌, ◌<◌, ℕ, ◌+◌, ◌-◌, ◌*◌, ◌^◌, ◌==◌, true, if◌then◌else◌, List, [], length, replicate, Option, Some, None, inl, inr, refl, ap, sym, ◌∙◌, subst, arith}
-use Rattle.silt_engine.proofs.Common.{IfSome, eq-eqb, ne_eqb, get_or_from_slice_get, slice_get_within, ChangesWithin, Content, CountsFault, size, Ghosts, InLimits, Shape, row_len}
-use Rattle.silt_engine.proofs.Common.{IsFrozenStore, LogStoreState, bucket_count_is, is_well_formed, current_slot, Body, Digests, Digest, HashState, ConversionState, HasWritten, IsDigestOf}
-use Rattle.silt_engine.proofs.Common.{hash_slot_at, Progress, Finished, Idle, Moved, AreWhole, IsUnderWay, EngineState, names_hash, oldest_log, Stands, Advances, Breaks, Remaps}
-use Rattle.silt_engine.proofs.Common.{AreAllHashesNamed, EndsConversion, convert_turn, converted_body, is_work, cases_eq, GaveAny, FailsStep, Steps, Waiting, digests_with, ConvertErrorCause}
-use Rattle.silt_engine.proofs.Common.{Converts, IsLowestFreeHash, progress_due, written_by}
+use Rattle.silt_engine.proofs.Common.{◌≡◌, ◌<◌, ℕ, ◌+◌, ◌-◌, ◌*◌, ◌^◌, ◌==◌, true, if◌then◌else◌, List, [], length, replicate, Option, Some, None, refl, ap, sym, ◌∙◌, subst, arith, IfSome}
+use Rattle.silt_engine.proofs.Common.{eq-eqb, ne_eqb, get_or_from_slice_get, slice_get_within, ChangesWithin, Content, CountsFault, size, Ghosts, InLimits, row_len, IsFrozenStore}
+use Rattle.silt_engine.proofs.Common.{LogStoreState, bucket_count_is, is_well_formed, current_slot, Body, Digests, Digest, HashState, ConversionState, HasWritten, IsDigestOf, hash_slot_at}
+use Rattle.silt_engine.proofs.Common.{Progress, Finished, Idle, Moved, AreWhole, IsUnderWay, EngineState, names_hash, oldest_log, Stands, Advances, Breaks, Remaps, AreAllHashesNamed}
+use Rattle.silt_engine.proofs.Common.{EndsConversion, convert_turn, converted_body, is_work, cases_eq, GaveAny, FailsStep, Steps, Waiting, digests_with, ConvertErrorCause, Converts}
+use Rattle.silt_engine.proofs.Common.{IsLowestFreeHash, progress_due, written_by}
 use Rattle.silt_conversion.specs.declared.conversion.StepError.TheVariants as step_error
 use Rattle.std.specs.Prelude.{slice_get}
 use Rattle.std.proofs.lemmas.Option.{slice_get_cases}
@@ -32,21 +32,11 @@ module _ (s : EngineState) where
 
   -- the next slot of a conversion that moves on is there
   pub moves_below : (conversion : ConversionState) → s.converting ≡ Some conversion → IsUnderWay s conversion → convert_turn s ≡ Moved → conversion.next < 4 * conversion.shape.buckets
-  moves_below conversion was way turn = elim (cases_eq conversion.next (4 * s.manifest.shape.buckets)) [
-    | inl all ↦
-        let finished : convert_turn s ≡ Finished = cc (eq-eqb conversion.next (4 * s.manifest.shape.buckets) all) in
-        absurd (let no : Moved ≡ Finished = sym turn ∙ finished in cc)
-    | inr more ↦ rw way.has_shape (omega (arith, more, way.most))
-  ]
+  moves_below conversion was way turn = search (arith, way, cases_eq, eq-eqb)
 
   -- all slots of one that finishes are written
   all_written : (conversion : ConversionState) → s.converting ≡ Some conversion → IsUnderWay s conversion → convert_turn s ≡ Finished → conversion.next ≡ 4 * conversion.shape.buckets
-  all_written conversion was way turn = elim (cases_eq conversion.next (4 * s.manifest.shape.buckets)) [
-    | inl all ↦ subst (λ (sh : Shape). conversion.next ≡ 4 * sh.buckets) (sym way.has_shape) all
-    | inr more ↦
-        let moved : convert_turn s ≡ Moved = cc (ne_eqb conversion.next (4 * s.manifest.shape.buckets) more) in
-        absurd (let no : Finished ≡ Moved = sym turn ∙ moved in cc)
-  ]
+  all_written conversion was way turn = search (arith, way, cases_eq, ne_eqb)
 
   -- without frozen logs, as the last one of what was read shows, and with no conversion in progress
   pub idle_turn : s.converting ≡ None → (read : List LogStoreState) → read ≡ s.frozen → slice_get read (length read - 1) ≡ None → convert_turn s ≡ Idle
@@ -67,10 +57,9 @@ module _ (s : EngineState) where
 -- ---- the end
 
 -- a conversion that finishes may end with the next body and these digests
-pub may_finish : (s : EngineState) (body : Body) (digests : Digests) (conversion : ConversionState) (digest sorted : Digest) (hashes : List HashState)
-    → AreWhole s → s.converting ≡ Some conversion → convert_turn s ≡ Finished
-    → s.manifest.current.generation < 2 ^ 63 - 1 → body ≡ converted_body s.manifest.current conversion.region → IsDigestOf conversion.hasher digest.0 → hashes ≡ s.hashes → sorted.0 ≡ s.digest
-    → digests ≡ digests_with (Some digest) hashes sorted → EndsConversion s body digests
+pub may_finish : (s : EngineState) (body : Body) (digests : Digests) (conversion : ConversionState) (digest sorted : Digest) (hashes : List HashState) → AreWhole s
+    → s.converting ≡ Some conversion → convert_turn s ≡ Finished → s.manifest.current.generation < 2 ^ 63 - 1 → body ≡ converted_body s.manifest.current conversion.region
+    → IsDigestOf conversion.hasher digest.0 → hashes ≡ s.hashes → sorted.0 ≡ s.digest → digests ≡ digests_with (Some digest) hashes sorted → EndsConversion s body digests
 may_finish s body digests conversion digest sorted hashes whole was turn unspent is digested hashes_are sorted_is digests_are = record {
   conversion = conversion;
   was = was;
@@ -205,17 +194,7 @@ module _ (s : EngineState) (log : LogStoreState) (current : Body) (hashes region
       -- of the stores in memory with a conversion one slot on
       module _ (after : ConversionState) (tags : List (Option ℕ)) (next : after ≡ record started { next = started.next + 1; tags = tags; puts = after.puts; hasher = after.hasher }) where
         pub begin_converts : Converts Moved s (record s { converting = Some after })
-        begin_converts = record {
-          due = sym begin_turn;
-          done = record {
-            conversion = after;
-            is = refl;
-            step = rw may.none (
-              subst (IsLowestFreeHash s.manifest.shape.hashes s.manifest.current) (sym (ap (λ (v : ConversionState). v.region) next ∙ started_region)) lowest_here,
-              ap (λ (v : ConversionState). v.next) next ∙ ap (λ (n : ℕ). n + 1) started_none,
-            );
-          };
-        }
+        begin_converts = search (arith, begin_turn, started_region, lowest_here, started_none)
 
       module _ (old new : Content) (after : ConversionState) (stands : Stands old s) (wrote : HasWritten old log started) (sizes : size new ≡ size old)
           (changes : ChangesWithin (hash_slot_at started.shape started.region started.next) (row_len started.shape) old new) where

@@ -1,9 +1,9 @@
 -- The stores of a body that names a hash store in place of the oldest log.
 use Rattle.silt_engine.proofs.Common.{◌≡◌, ◌≢◌, ◌<◌, ℕ, ◌+◌, ◌-◌, suc, List, [], ◌∷◌, ◌++◌, length, map, take, get_or, refl, ap, sym, ◌∙◌, arith, ne_eqb, get_or-map, length-map, map-append}
 use Rattle.silt_engine.proofs.Common.{take_all, take_more, take-map, Shape, log_rows, StoredRow, Body, Part, log_part, part_rows, Stores, hash_part, hash_rows, sorted_rows, HasOldest}
-use Rattle.silt_engine.proofs.Common.{converted_body, flat_map, append_assoc, take-append_seam, flat_map-append, Slots, Map, map_after, FindsNothing, IsSound, charge_of, command_of}
-use Rattle.silt_engine.proofs.Common.{map_of_rows, known_rows, oldest_first, put_count, count_law, map_after-append, map_law, finds_nothing, is_sound, nothing_first, converted_rows}
-use Rattle.silt_engine.proofs.Common.{IsTableOf, converted_charge, keeps_rows, ConvertsLaw, log_findings, nothing_both}
+use Rattle.silt_engine.proofs.Common.{converted_body, append_assoc, take-append_seam, flat_map-append, Slots, Map, map_after, IsSound, charge_of, command_of, map_of_rows, known_rows}
+use Rattle.silt_engine.proofs.Common.{oldest_first, put_count, count_law, map_after-append, map_law, finds_nothing, is_sound, nothing_first, converted_rows, IsTableOf, converted_charge}
+use Rattle.silt_engine.proofs.Common.{keeps_rows, ConvertsLaw, nothing_both}
 use Rattle.silt_image.specs.Stores.{stores_named}
 use Rattle.silt_image.specs.Meaning.{with_log_rows, rows_of}
 use Rattle.silt_engine.specs.Replacements.{with_converted}
@@ -103,10 +103,7 @@ all_but_oldest newer oldest =
 -- the map of rows, some of which replace others that make the same of each map
 map_replaced : (front some other rest : List StoredRow) → ((m : Map) → map_after m (map command_of other) ≡ map_after m (map command_of some))
     → map_of_rows (front ++ (other ++ rest)) ≡ map_of_rows (front ++ (some ++ rest))
-map_replaced front some other rest same = cc (by_parts other, same (map_of_rows front), by_parts some)
-  where
-    by_parts : (middle : List StoredRow) → map_of_rows (front ++ (middle ++ rest)) ≡ map_after (map_after (map_of_rows front) (map command_of middle)) (map command_of rest)
-    by_parts middle = search (arith, map_law, map-append, map_after-append)
+map_replaced front some other rest same = search (arith, map_law, map-append, map_after-append)
 
 module _ (s : Stores) (body : Body) (rows : List StoredRow) (table : Slots) (region : ℕ) (has : HasOldest rows s) (is : IsTableOf s.shape rows table) where
   abbrev part : Part
@@ -154,16 +151,7 @@ module _ (s : Stores) (body : Body) (rows : List StoredRow) (table : Slots) (reg
   -- and nothing is found
   still_sound : IsSound s → IsSound new
   unfolding with_converted
-  still_sound sound =
-      let nothing : FindsNothing s = finds_nothing s sound in
-      let logs : flat_map (log_findings s.shape) has.newer ++ flat_map (log_findings s.shape) (oldest ∷ []) ≡ [] =
-      cc (flat_map-append (log_findings s.shape) has.newer (oldest ∷ []), has.logs, nothing.logs) in
-      is_sound new (record {
-        logs = cc (newer_left, nothing_first (flat_map (log_findings s.shape) has.newer) (flat_map (log_findings s.shape) (oldest ∷ [])) logs);
-        hashes = nothing_both _ _ (converted_sound s.shape rows table region is) nothing.hashes;
-        entries = nothing.entries;
-        charge = omega (arith, nothing.charge, charge_moves, converted_charge s.shape rows table is);
-      })
+  still_sound sound = search (arith, finds_nothing, flat_map-append, is_sound, newer_left, nothing_first, nothing_both, converted_sound, charge_moves, converted_charge)
 
 -- the rows that are due may be in a hash store in place of the oldest log
 pub converts : ConvertsLaw

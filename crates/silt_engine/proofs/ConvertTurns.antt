@@ -82,13 +82,12 @@ module _ (old : Content) (s : EngineState) (body : Body) (digests : Digests) (st
   -- it names them in each possible crash image, since nothing is pending
   names : LeavesOnly old (λ image. stores_named s.manifest.shape body image ≡ converted_stores)
   names = record {
-    each = λ h image left.
-        cc (
-          left_at_rest rests h image left,
-          ends.is,
-          converted_named s.manifest.shape s.manifest.current ends.conversion.region _ old.shown (some_ids old s stands under_way.some_frozen) (ending_slots old s
-              stands ends.conversion ends.was ends.done h),
-        );
+    each = λ h image left. cc (
+      left_at_rest rests h image left,
+      ends.is,
+      converted_named s.manifest.shape s.manifest.current ends.conversion.region _ old.shown (some_ids old s stands under_way.some_frozen) (ending_slots old s
+          stands ends.conversion ends.was ends.done h),
+    );
   }
 
   -- the digests are theirs
@@ -234,15 +233,13 @@ module _ (old : Content) (s : EngineState) (body : Body) (digests : Digests) (st
         same_shape = converted_may_become_current.has_shape ∙ sym now.has_shape;
         same_body = converted_may_become_current.has_body ∙ sym now.has_body;
         named = now_named old new s body digests stands converted_may_become_current sizes m now;
-        sound = λ h. subst (λ (n : ℕ). IsSound (with_log_rows n (all_rows new s.active.log) converted_stores)) (ap (λ (b : Body). b.active) (sym current_is))
-            (subst (λ (rows : List StoredRow). IsSound (with_log_rows s.manifest.current.active rows converted_stores)) (sym (keeps.all (back h)))
-            (ending_full_sound old s stands ends.conversion ends.was (back h)));
+        sound = λ h. subst (λ (n : ℕ). IsSound (with_log_rows n (all_rows new s.active.log) converted_stores)) (ap (λ (b : Body). b.active) (sym current_is)) (subst (λ (rows : List
+            StoredRow). IsSound (with_log_rows s.manifest.current.active rows converted_stores)) (sym (keeps.all (back h))) (ending_full_sound old s stands ends.conversion ends.was (back h)));
         said = λ h. rw (← now.has_digests) at (converted_may_become_current.said (back h));
-        counted = λ h.
-            cc (
-              ending_counted old s stands ends.conversion ends.was ends.done (back h) (s.charge - ((oldest_log s).puts - ends.conversion.puts)) refl,
-              waiting_stays old new s stands sizes now.changes (back h),
-            );
+        counted = λ h. cc (
+          ending_counted old s stands ends.conversion ends.was ends.done (back h) (s.charge - ((oldest_log s).puts - ends.conversion.puts)) refl,
+          waiting_stays old new s stands sizes now.changes (back h),
+        );
       }
 
       -- and still stand
@@ -271,9 +268,8 @@ module _ (old : Content) (s : EngineState) (body : Body) (digests : Digests) (st
           ∙ ap (λ (sh : Shape). converted_rows sh (oldest_log s).table (all_rows old (oldest_log s).log)) (named_shape s.manifest.shape s.manifest.current old.shown)
 
       -- which are the last rows of the log's keys, as the full image had them on a disk that shows the same stores
-      pub has_converted_rows : (first : Content) (finished : EngineState) → AreWhole finished → finished ≡ oldest_replaced s m ends.conversion digest
-          → Stands first s → IsTrue first.honest → IsTrue old.honest
-          → shown_stores old s ≡ shown_stores first s → HasConvertedRows first new s finished
+      pub has_converted_rows : (first : Content) (finished : EngineState) → AreWhole finished → finished ≡ oldest_replaced s m ends.conversion digest → Stands first s → IsTrue first.honest
+          → IsTrue old.honest → shown_stores old s ≡ shown_stores first s → HasConvertedRows first new s finished
       has_converted_rows first finished is_whole is stood was_honest h same =
           let rows : List StoredRow = oldest_rows s.manifest.shape s.manifest.current (full_image first s) in
           let log_rows_are : rows ≡ all_rows old (oldest_log s).log = oldest_same first old s stood stands ends.conversion ends.was was_honest h same in
@@ -291,17 +287,4 @@ module _ (old : Content) (s : EngineState) (body : Body) (digests : Digests) (st
 
       -- the conversion is finished
       pub converted_finishes : (finished : EngineState) → finished ≡ oldest_replaced s m ends.conversion digest → Finishes s finished
-      converted_finishes finished is = rw is
-          (record {
-            conversion = ends.conversion;
-            was = ends.was;
-            none = refl;
-            shape = now.has_shape;
-            current = current_is;
-            active = refl;
-            frozen = refl;
-            sorted = refl;
-            index = refl;
-            digest = refl;
-            merging = refl;
-          })
+      converted_finishes finished is = search (arith, current_is)

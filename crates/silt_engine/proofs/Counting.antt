@@ -1,10 +1,10 @@
 -- Which log regions are free, and how many.
 use Rattle.silt_engine.proofs.Common.{ne_eqb, or_parts, ◌≡◌, ◌≢◌, ◌≤◌, ◌<◌, ℕ, ◌+◌, ◌-◌, ◌%◌, ◌^◌, ◌==◌, true, false, not, nat_lt, suc, zero, List, [], ◌∷◌, length, inl, inr, refl, ap, sym}
 use Rattle.silt_engine.proofs.Common.{◌∙◌, arith, list_any, eqb, and_parts, eq-eqb, eqb-true, lt-ltb, ltb-true, not-true, and_from, Shape, all_below, has_sound_logs, is_distinct}
-use Rattle.silt_engine.proofs.Common.{is_well_formed, Body, AreAllNamed, IsLowestFree, next_body, nat_le, take, Option, Some, subst, IfSome, nat_tests, length-map, length-take}
-use Rattle.silt_engine.proofs.Common.{has_sound_hashes, IsNext, current_slot, spare_slot, Digests, AreWhole, IsUnderWay, EngineState, hash_region_of, names_hash, ConversionState}
-use Rattle.silt_engine.proofs.Common.{AreAllHashesNamed, EndsConversion, converted_body, le-leb, MergeState, IndexedState, EndsMerge, merged_body, IsMerging, NextLog, region_of, IsNextLog}
-use Rattle.silt_engine.proofs.Common.{empty_store, AllByRecursion, range_with_len, length-range_with_len, nat_eq_equiv, HasNoFreeLog}
+use Rattle.silt_engine.proofs.Common.{is_well_formed, Body, AreAllNamed, IsLowestFree, next_body, nat_le, take, Some, subst, nat_tests, length-map, length-take, has_sound_hashes, IsNext}
+use Rattle.silt_engine.proofs.Common.{current_slot, Digests, AreWhole, EngineState, hash_region_of, names_hash, ConversionState, AreAllHashesNamed, EndsConversion, converted_body, le-leb}
+use Rattle.silt_engine.proofs.Common.{IndexedState, EndsMerge, merged_body, NextLog, region_of, IsNextLog, empty_store, AllByRecursion, range_with_len, length-range_with_len, nat_eq_equiv}
+use Rattle.silt_engine.proofs.Common.{HasNoFreeLog}
 use Rattle.std.specs.List.{IsDistinct}
 use Rattle.std.proofs.lemmas.Bool.{or_cases, or_from}
 use Rattle.std.proofs.lemmas.Map.Made.{length-le_from_is_member}
@@ -52,18 +52,11 @@ apart_from (id ∷ ids) x none = let parts = or_parts (eqb id x) (list_any (λ o
 distinct_ids : (ids : List ℕ) → is_distinct ids ≡ true → IsDistinct eqb ids
 unfolding IsDistinct
 distinct_ids [] e = tt
-distinct_ids (id ∷ ids) e =
-    let parts = and_parts (not (list_any (λ other. other == id) ids)) (is_distinct ids) e in
-    (apart_from ids id (not-true _ parts.0), distinct_ids ids parts.1)
+distinct_ids (id ∷ ids) e = search (arith, distinct_ids ids, and_parts, apart_from, not-true)
 
 below_each : (n : ℕ) (ids : List ℕ) → all_below n ids ≡ true → (x : ℕ) → list_any (eqb x) ids ≡ true → x < n
 below_each n [] all x e = absurd (let no : false ≡ true = e in cc)
-below_each n (id ∷ ids) all x e =
-    let parts = and_parts (nat_lt id n) (all_below n ids) all in
-    elim (or_cases (eqb x id) (list_any (eqb x) ids) e) [
-      | inl same ↦ omega (arith, eqb-true x id same, ltb-true id n parts.0)
-      | inr rest ↦ below_each n ids parts.1 x rest
-    ]
+below_each n (id ∷ ids) all x e = search (arith, below_each n ids, and_parts, or_cases, eqb-true, ltb-true)
 
 -- distinct ids below n are at most n
 pub at_most : (n : ℕ) (ids : List ℕ) → is_distinct ids ≡ true → all_below n ids ≡ true → length ids ≤ n
@@ -78,21 +71,12 @@ pub record HasTests (s : Shape) (b : Body) : Type 0 where
   pub count : nat_le b.sorted_count s.sorted_capacity ≡ true
 
 tests_of : (s : Shape) (slot : ℕ) (b : Body) → is_well_formed s slot b ≡ true → HasTests s b
-tests_of s slot b sound =
-    let p1 = and_parts _ _ sound in
-    let p2 = and_parts _ _ p1.0 in
-    let p3 = and_parts _ _ p2.0 in
-    let p4 = and_parts _ _ p3.0 in
-    record { generation = ltb-true b.generation (2 ^ 63) (and_parts _ _ p4.0).0; logs = p4.1; hashes = p3.1; sorted = p2.1; count = p1.1 }
+tests_of s slot b sound = search (arith, and_parts, ltb-true)
 
 -- a record of the next generation with such tests is well formed
-next_well_formed : (s : Shape) (b next : Body) → next.generation ≡ b.generation + 1 → b.generation < 2 ^ 63 - 1 → has_sound_logs s.logs next ≡ true
-    → has_sound_hashes s.hashes next ≡ true → nat_lt next.sorted 2 ≡ true → nat_le next.sorted_count s.sorted_capacity ≡ true
-    → is_well_formed s ((b.generation + 1) % 2) next ≡ true
-next_well_formed s b next is unspent logs hashes sorted count =
-    let generation : nat_lt next.generation (2 ^ 63) ≡ true = lt-ltb next.generation (2 ^ 63) (omega (arith, is, unspent)) in
-    let remainder : (next.generation % 2 == (b.generation + 1) % 2) ≡ true = eq-eqb _ _ (ap (λ (n : ℕ). n % 2) is) in
-    and_from _ _ (and_from _ _ (and_from _ _ (and_from _ _ (and_from _ _ generation remainder) logs) hashes) sorted) count
+next_well_formed : (s : Shape) (b next : Body) → next.generation ≡ b.generation + 1 → b.generation < 2 ^ 63 - 1 → has_sound_logs s.logs next ≡ true → has_sound_hashes s.hashes next ≡ true
+    → nat_lt next.sorted 2 ≡ true → nat_le next.sorted_count s.sorted_capacity ≡ true → is_well_formed s ((b.generation + 1) % 2) next ≡ true
+next_well_formed s b next is unspent logs hashes sorted count = search (arith, lt-ltb, eq-eqb, and_from, next.generation)
 
 -- what holds of the logs of a well-formed record
 pub record HasSoundLogs (logs : ℕ) (b : Body) : Type 0 where
@@ -192,17 +176,13 @@ pub distinct_first : (ids : List ℕ) (n : ℕ) → is_distinct ids ≡ true →
 distinct_first [] zero e = refl
 distinct_first [] (suc n) e = refl
 distinct_first (id ∷ ids) zero e = refl
-distinct_first (id ∷ ids) (suc n) e =
-    let parts = and_parts (not (list_any (λ other. other == id) ids)) (is_distinct ids) e in
-    and_from _ _ (ap not (none_of_first ids n id (not-true _ parts.0))) (distinct_first ids n parts.1)
+distinct_first (id ∷ ids) (suc n) e = search (arith, distinct_first ids n, and_parts, and_from, none_of_first, not-true)
 
 pub below_first : (most : ℕ) (ids : List ℕ) (n : ℕ) → all_below most ids ≡ true → all_below most (take n ids) ≡ true
 below_first most [] zero e = refl
 below_first most [] (suc n) e = refl
 below_first most (id ∷ ids) zero e = refl
-below_first most (id ∷ ids) (suc n) e =
-    let parts = and_parts (nat_lt id most) (all_below most ids) e in
-    and_from _ _ parts.0 (below_first most ids n parts.1)
+below_first most (id ∷ ids) (suc n) e = search (arith, below_first most ids n, and_parts, and_from)
 
 sound_logs_first : (logs : ℕ) (b : Body) (n generation : ℕ) (hashed : List ℕ) → has_sound_logs logs b ≡ true
     → has_sound_logs logs (record b { generation = generation; frozen = take n b.frozen; hashed = hashed }) ≡ true
@@ -212,8 +192,7 @@ sound_logs_first logs b n generation hashed sound =
     let l3 = and_parts _ _ l2.0 in
     let l4 = and_parts _ _ l3.0 in
     let fewer : nat_lt (length (take n b.frozen)) logs ≡ true = lt-ltb _ _ (omega (arith, ltb-true (length b.frozen) logs l4.0, length-take n b.frozen)) in
-    and_from _ _ (and_from _ _ (and_from _ _ (and_from _ _ fewer l4.1) (below_first logs _ n l3.1)) (ap not (none_of_first _ n _ (not-true _ l2.1))))
-    (distinct_first _ n l1.1)
+    and_from _ _ (and_from _ _ (and_from _ _ (and_from _ _ fewer l4.1) (below_first logs _ n l3.1)) (ap not (none_of_first _ n _ (not-true _ l2.1)))) (distinct_first _ n l1.1)
 
 -- the body that names a free region in place of the oldest log is well formed
 pub converted_sound_body : (s : Shape) (slot region : ℕ) (b : Body) → is_well_formed s slot b ≡ true → region < s.hashes → names_hash b region ≡ false → b.generation < 2 ^ 63 - 1
@@ -225,8 +204,7 @@ converted_sound_body s slot region b sound inside free unspent =
     let below : all_below s.hashes (region ∷ b.hashed) ≡ true = and_from _ _ (lt-ltb region s.hashes inside) parts.below in
     let hashes : has_sound_hashes s.hashes (converted_body b region) ≡ true = and_from _ _ (and_from _ _ most below) distinct in
     let tests = tests_of s slot b sound in
-    let logs : has_sound_logs s.logs (converted_body b region) ≡ true =
-    sound_logs_first s.logs b (length b.frozen - 1) (b.generation + 1) (region ∷ b.hashed) tests.logs in
+    let logs : has_sound_logs s.logs (converted_body b region) ≡ true = sound_logs_first s.logs b (length b.frozen - 1) (b.generation + 1) (region ∷ b.hashed) tests.logs in
     next_well_formed s b (converted_body b region) refl unspent logs hashes tests.sorted tests.count
 
 -- ---- of the stores in memory
@@ -243,28 +221,18 @@ no_hash_free s slot whole sound named = hash_count s whole ∙ all_hashes_named 
 -- if one is free, there are fewer
 pub hash_free : (s : EngineState) (slot region : ℕ) → AreWhole s → is_well_formed s.manifest.shape slot s.manifest.current ≡ true
     → region < s.manifest.shape.hashes → names_hash s.manifest.current region ≡ false → length s.hashes < s.manifest.shape.hashes
-hash_free s slot region whole sound inside free =
-    omega (arith, fewer_hashes s.manifest.shape slot region s.manifest.current sound inside free, hash_count s whole)
+hash_free s slot region whole sound inside free = omega (arith, fewer_hashes s.manifest.shape slot region s.manifest.current sound inside free, hash_count s whole)
 
 -- the record that ends a conversion may follow the current one
 pub may_end : (s : EngineState) (body : Body) (digests : Digests) → is_well_formed s.manifest.shape (current_slot s.manifest) s.manifest.current ≡ true
     → AreWhole s → EndsConversion s body digests → IsNext s.manifest body
-may_end s body digests sound whole ends =
-    let way : IsUnderWay s ends.conversion = subst (λ (o : Option ConversionState). IfSome o (IsUnderWay s)) ends.was whole.under_way in
-    record {
-      generation = ap (λ (b : Body). b.generation) ends.is;
-      sound =
-          cc (ends.is, converted_sound_body s.manifest.shape (current_slot s.manifest) ends.conversion.region s.manifest.current sound way.there way.free ends.unspent);
-    }
+may_end s body digests sound whole ends = search (arith, converted_sound_body)
 
 -- it has room for one hash store more
 pub room_for_hash : (s : EngineState) (current : Body) (conversion : ConversionState) (limit : ℕ) → AreWhole s
     → is_well_formed s.manifest.shape (current_slot s.manifest) s.manifest.current ≡ true → s.converting ≡ Some conversion
     → limit ≡ s.manifest.shape.hashes → limit ≤ 16 → current ≡ s.manifest.current → length current.hashed < 16
-room_for_hash s current conversion limit whole sound was limit_is most same =
-    let way : IsUnderWay s conversion = subst (λ (o : Option ConversionState). IfSome o (IsUnderWay s)) was whole.under_way in
-    let fewer = fewer_hashes s.manifest.shape (current_slot s.manifest) conversion.region s.manifest.current sound way.there way.free in
-    omega (arith, fewer, limit_is, most, ap (λ (b : Body). length b.hashed) same)
+room_for_hash s current conversion limit whole sound was limit_is most same = search (arith, fewer_hashes)
 
 -- ---- the body that names the sorted store of a merge
 
@@ -276,36 +244,23 @@ merged_sound_body s slot count region written b sound there room unspent =
     let fewer : nat_le (length (take (length b.hashed - count) b.hashed)) s.hashes ≡ true = le-leb _ _ (omega (arith, parts.most, length-take (length b.hashed - count) b.hashed)) in
     let hashes : has_sound_hashes s.hashes (merged_body b count region written) ≡ true =
     and_from _ _ (and_from _ _ fewer (below_first s.hashes b.hashed (length b.hashed - count) parts.below)) (distinct_first b.hashed (length b.hashed - count) parts.distinct) in
-    next_well_formed s b (merged_body b count region written) refl unspent (tests_of s slot b sound).logs hashes (lt-ltb region 2 there)
-    (le-leb written s.sorted_capacity room)
+    next_well_formed s b (merged_body b count region written) refl unspent (tests_of s slot b sound).logs hashes (lt-ltb region 2 there) (le-leb written s.sorted_capacity room)
 
 -- the record that ends a merge may follow the current one
 pub may_end_merge : (s : EngineState) (body : Body) (digests : Digests) (store : IndexedState)
     → is_well_formed s.manifest.shape (current_slot s.manifest) s.manifest.current ≡ true → AreWhole s → EndsMerge s body digests store → IsNext s.manifest body
-may_end_merge s body digests store sound whole ends =
-    let way : IsMerging s ends.merge = subst (λ (o : Option MergeState). IfSome o (IsMerging s)) ends.was whole.merging in
-    record {
-      generation = ap (λ (b : Body). b.generation) ends.is;
-      sound =
-          ap (is_well_formed s.manifest.shape (spare_slot s.manifest)) ends.is
-          ∙ merged_sound_body s.manifest.shape (current_slot s.manifest) ends.merge.stores ends.merge.region ends.merge.written s.manifest.current sound way.held.there
-          (rw way.has_shape at way.held.room) ends.unspent;
-    }
+may_end_merge s body digests store sound whole ends = search (arith, merged_sound_body)
 
 -- there are no more hash stores than a manifest has room for
 pub few_hashes : (s : EngineState) (limit : ℕ) → AreWhole s → is_well_formed s.manifest.shape (current_slot s.manifest) s.manifest.current ≡ true
     → limit ≡ s.manifest.shape.hashes → limit ≤ 16 → length s.hashes ≤ 16
-few_hashes s limit whole sound limit_is most =
-    omega (arith, (sound_hashes s.manifest.shape (current_slot s.manifest) s.manifest.current sound).most, limit_is, most, hash_count s whole)
+few_hashes s limit whole sound limit_is most = omega (arith, (sound_hashes s.manifest.shape (current_slot s.manifest) s.manifest.current sound).most, limit_is, most, hash_count s whole)
 
 -- ---- the stores in memory, and the log that comes next
 
 -- the record of the next log may follow the current one
 pub may_follow : (s : EngineState) (next : NextLog) → is_well_formed s.manifest.shape (current_slot s.manifest) s.manifest.current ≡ true → IsNextLog s next → IsNext s.manifest next.body
-may_follow s next sound is = record {
-  generation = ap (λ (b : Body). b.generation) is.body;
-  sound = cc (is.body, next_sound s.manifest.shape (current_slot s.manifest) is.region s.manifest.current sound is.lowest is.unspent);
-}
+may_follow s next sound is = search (arith, next_sound)
 
 -- there are as many frozen logs as the body names
 pub frozen_count : (s : EngineState) → AreWhole s → length s.frozen ≡ length s.manifest.current.frozen
@@ -319,9 +274,8 @@ no_room s slot logs is whole sound named =
     omega (arith, all, frozen_count s whole)
 
 -- and if one is free
-pub has_room : (s : EngineState) (slot logs region : ℕ) → logs ≡ s.manifest.shape.logs → AreWhole s
-    → is_well_formed s.manifest.shape slot s.manifest.current ≡ true → IsLowestFree logs s.manifest.current region
-    → length s.frozen + 1 < s.manifest.shape.logs
+pub has_room : (s : EngineState) (slot logs region : ℕ) → logs ≡ s.manifest.shape.logs → AreWhole s → is_well_formed s.manifest.shape slot s.manifest.current ≡ true
+    → IsLowestFree logs s.manifest.current region → length s.frozen + 1 < s.manifest.shape.logs
 has_room s slot logs region is whole sound lowest =
     let spare = one_to_spare s.manifest.shape slot region s.manifest.current sound (subst (λ (n : ℕ). IsLowestFree n s.manifest.current region) is lowest) in
     omega (arith, spare, frozen_count s whole)

@@ -185,13 +185,11 @@ abbrev pub IsOutsideMerge : EngineState → ℕ → ℕ → Type 0
 IsOutsideMerge s at count = IfSome s.merging (IsPastEntries s.manifest.shape at count)
 
 -- the region of a log that is there lies before the slots of a conversion
-pub region_before_conversion : (s : EngineState) (region : ℕ) → region < s.manifest.shape.logs
-    → IsOutsideConversion s (commits_at s.manifest.shape region) (log_size s.manifest.shape)
+pub region_before_conversion : (s : EngineState) (region : ℕ) → region < s.manifest.shape.logs → IsOutsideConversion s (commits_at s.manifest.shape region) (log_size s.manifest.shape)
 region_before_conversion s region below = search (arith, on_some, slots_behind_log)
 
 -- and before the entries of a merge
-pub region_before_merge : (s : EngineState) (region : ℕ) → region < s.manifest.shape.logs
-    → IsOutsideMerge s (commits_at s.manifest.shape region) (log_size s.manifest.shape)
+pub region_before_merge : (s : EngineState) (region : ℕ) → region < s.manifest.shape.logs → IsOutsideMerge s (commits_at s.manifest.shape region) (log_size s.manifest.shape)
 region_before_merge s region below =
     on_some (IsPastEntries s.manifest.shape (commits_at s.manifest.shape region) (log_size s.manifest.shape)) _ (λ merge. entries_behind_log _ region _ below)
 
@@ -249,8 +247,7 @@ module _ (old new : Content) (s : EngineState) (at count : ℕ) (stands : Stands
   sorted_inside = rw stands.whole.sorted (omega (arith, stands.has_size))
 
   sorted_outside : IsTrue old.honest → LiesOutside (sorted_at s.sorted.shape s.sorted.region) (entries_len s.sorted.shape) at count
-  sorted_outside h =
-      subst (λ (t : SortedState). LiesOutside (sorted_at t.shape t.region) (entries_len t.shape) at count) (sym stands.whole.sorted) (apart h).sorted
+  sorted_outside h = subst (λ (t : SortedState). LiesOutside (sorted_at t.shape t.region) (entries_len t.shape) at count) (sym stands.whole.sorted) (apart h).sorted
 
   -- their index and their digest
   pub located_elsewhere : IsLocated new s
@@ -267,10 +264,9 @@ module _ (old new : Content) (s : EngineState) (at count : ℕ) (stands : Stands
       let way : IsMerging s merge = merging in
       let is_shape : s.sorted.shape ≡ s.manifest.shape = ap (λ (t : SortedState). t.shape) stands.whole.sorted in
       let taken : List HashState = oldest_stores merge.stores s.hashes in
-      let slots : IsTrue old.honest → All (λ (store : HashState). LiesOutside (hash_at s.sorted.shape store.region) (slots_len s.sorted.shape) at count) taken =
-      λ h. All-drop (λ (store : HashState). LiesOutside (hash_at s.sorted.shape store.region) (slots_len s.sorted.shape) at count)
-      (length s.hashes - merge.stores) s.hashes
-      (λ k d inside. rw (← is_shape) at ((apart h).hashed (get_or s.hashes k d).region (hash_named s stands.whole.hash_regions k d inside))) in
+      let slots : IsTrue old.honest → All (λ (store : HashState). LiesOutside (hash_at s.sorted.shape store.region) (slots_len s.sorted.shape) at count) taken = λ h. All-drop (λ (store :
+      HashState). LiesOutside (hash_at s.sorted.shape store.region) (slots_len s.sorted.shape) at count) (length s.hashes - merge.stores) s.hashes (λ k d inside. rw (← is_shape) at ((apart
+      h).hashed (get_or s.hashes k d).region (hash_named s stands.whole.hash_regions k d inside))) in
       let stays : IsTrue old.honest → HasMerged new taken s.sorted merge = λ h. merged_elsewhere taken s.sorted merge old new at count stands.whole.held
       way.held sorted_inside (rw (← is_shape) at (outside h)) (sorted_outside h) (slots h) changes is.0 in (
         record {

@@ -63,14 +63,12 @@ went facts adds old new before after result same stands failures goes made = sea
 pub went_so : {D F T E : Type 0} {w s : ℕ} (facts : Ghosts D F) (adds : List Command) (old new : D) (before after : EngineState) (result : Result T E)
     → SameDisk (facts.content old) (facts.content new) → Stands (facts.content old) before → facts.failures new ≡ facts.failures old
     → Advances adds (facts.content old) (facts.content new) before after → Makes facts.writes facts.syncs w s old new → Works facts adds w s old new before after result
-went_so facts adds old new before after result same stands failures goes made =
-    went facts adds old new before after result same stands failures goes (made_so result made)
+went_so facts adds old new before after result same stands failures goes made = went facts adds old new before after result same stands failures goes (made_so result made)
 
 -- no call
 pub nothing_done : {D F T E : Type 0} {MadeOk : T → Type 0} {w calls : ℕ} (facts : Ghosts D F) (disk : D) (s : EngineState) (result : Result T E) → Stands (facts.content disk) s
     → MatchResult result MadeOk (λ _. MakesAtMost facts.writes facts.syncs w calls disk disk) → WorksBy facts MadeOk [] w calls disk disk s s result
-nothing_done facts disk s result stands made =
-    went facts [] disk disk s s result (record { size = refl; honest = refl }) stands refl (stays_still _ s stands) made
+nothing_done facts disk s result stands made = went facts [] disk disk s s result (record { size = refl; honest = refl }) stands refl (stays_still _ s stands) made
 
 -- a call whose error is handed on
 pub went_off : {D F T E : Type 0} {MadeOk : T → Type 0} {adds : List Command} {w s : ℕ} (facts : Ghosts D F) (old new : D) (before after : EngineState) (r : Result T E) (error : E)

@@ -33,17 +33,15 @@ full_torn content l bounds sized =
 
 -- with the commit bytes of a log's waiting rows open, the map of the stores that are shown, of which it is the active one, is that after their
 -- commands
-pub opened_map : (content : Content) (l : LogState) (t : Stores) → log.IsLog content l → size content ≡ device_size l.shape
-    → t.shape ≡ l.shape → t.body.active ≡ l.region → IsTrue content.honest → image_stores content.shown ≡ Ok t
-    → image_map (log.opened_image content l) ≡ map_after (map_of_rows (rows_of t)) (map command_of (waiting_rows content l))
+pub opened_map : (content : Content) (l : LogState) (t : Stores) → log.IsLog content l → size content ≡ device_size l.shape → t.shape ≡ l.shape → t.body.active ≡ l.region
+    → IsTrue content.honest → image_stores content.shown ≡ Ok t → image_map (log.opened_image content l) ≡ map_after (map_of_rows (rows_of t)) (map command_of (waiting_rows content l))
 opened_map content l t is sized same_shape same_region honest named =
     let settled : List StoredRow = settled_rows content l in
     let waiting : List StoredRow = waiting_rows content l in
     let shown : log_rows l.shape l.region content.shown ≡ settled = is.images.each honest content.shown (shown_left content) in
     let has : HasActive settled t = active_named l.shape t.body t settled content.shown named same_shape refl (ap (λ (n : ℕ). log_rows l.shape n content.shown) same_region ∙ shown) in
-    let all : image_stores (log.opened_image content l) ≡ Ok (with_log_rows l.region (settled ++ waiting) t) =
-    region_torn l.shape t l.region (settled ++ waiting) content.shown (log.opened_image content l) same_shape named is.bounds.region (full_torn content l is.bounds sized)
-    (is.full honest ∙ all_are_settled_and_waiting content l is.bounds.order) in
+    let all : image_stores (log.opened_image content l) ≡ Ok (with_log_rows l.region (settled ++ waiting) t) = region_torn l.shape t l.region (settled ++ waiting) content.shown
+    (log.opened_image content l) same_shape named is.bounds.region (full_torn content l is.bounds sized) (is.full honest ∙ all_are_settled_and_waiting content l is.bounds.order) in
     stores_map (with_log_rows l.region (settled ++ waiting) t) (log.opened_image content l) all ∙ map_with_more t l.region settled waiting same_region has waiting
 
 module _ (content : Content) (s : EngineState) (stands : Stands content s) where
@@ -69,8 +67,7 @@ module _ (content : Content) (s : EngineState) (stands : Stands content s) where
 
   -- of which the first log is the active one
   pub has_active : IsTrue content.honest → HasActive (settled_rows content s.active.log) (shown_stores content s)
-  has_active honest = active_named _ _ _ _ _ (shown_named honest) (named_shape _ _ _) (named_body _ _ _) (active_rows _ ∙ stands.active.images.each honest
-      content.shown (shown_left _))
+  has_active honest = active_named _ _ _ _ _ (shown_named honest) (named_shape _ _ _) (named_body _ _ _) (active_rows _ ∙ stands.active.images.each honest content.shown (shown_left _))
 
   -- the region of the active log in the stores
   pub active_is : (shown_stores content s).body.active ≡ s.manifest.current.active
@@ -178,10 +175,8 @@ module _ (content : Content) (s : EngineState) (stands : Stands content s) where
   stands_with_rows honest image more is is_current sound =
       let t : Stores = with_log_rows s.manifest.current.active (settled_rows content s.active.log ++ more) (shown_stores content s) in
       let same_shape : t.shape ≡ s.manifest.shape = with_shape _ _ _ ∙ named_shape _ _ _ in
-      stands_for s.manifest.shape t s.manifest.digests (map_after (base_map content s) (map command_of more)) image is same_shape sound
-      (said_with_rows _ _ _ _ (stands.said honest))
-      (says_held image t is same_shape is_current)
-      (cc (
+      stands_for s.manifest.shape t s.manifest.digests (map_after (base_map content s) (map command_of more)) image is same_shape sound (said_with_rows _ _ _ _ (stands.said honest))
+      (says_held image t is same_shape is_current) (cc (
         map_with_more (shown_stores content s) s.manifest.current.active (settled_rows content s.active.log) (waiting_rows content s.active.log) active_is (has_active honest) more,
         base_is content s,
       ))

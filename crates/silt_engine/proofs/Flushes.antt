@@ -2,7 +2,7 @@
 use Rattle.silt_engine.proofs.Common.{◌≡◌, ◌+◌, ◌-◌, nat_lt, false, IsTrue, List, [], ◌++◌, map, take, drop, Ok, refl, ap, sym, ◌∙◌, subst, arith, map-append, take-append-drop}
 use Rattle.silt_engine.proofs.Common.{ChangesWithin, Content, LeavesOnly, size, commits_at, log_size, log_rows, StoredRow, LogState, all_rows, settled_rows, waiting_rows, none_waiting}
 use Rattle.silt_engine.proofs.Common.{LogStoreState, Stores, image_stores, rows_of, with_log_rows, command_of, EngineState, Stands, full_image, shown_stores, waiting_commands, Advances}
-use Rattle.silt_engine.proofs.Common.{Breaks, Remaps, IsQuiet, ltb-false, HasBeginning, commits_in_region, OpensSomeOfStore, OpensStore, again_law}
+use Rattle.silt_engine.proofs.Common.{Breaks, Remaps, IsQuiet, ltb-false, commits_in_region, OpensSomeOfStore, OpensStore, again_law}
 use Rattle.std.proofs.lemmas.List.{append-nil}
 use Rattle.silt_engine.proofs.Named.{map_with_more, named_body, named_shape, rows_with_more, said_with_rows, sound_some, with_body, with_shape}
 use Rattle.silt_engine.proofs.Facts.{active_is, all_sound, base_is, full_map, has_active, map_with_rows, rows_split, stands_with_rows, torn_active}
@@ -87,13 +87,11 @@ module _ (old new : Content) (s : EngineState) (after : LogStoreState) (stands :
       same_shape = same_shape;
       same_body = same_body;
       named = named;
-      sound = λ h.
-          rw (
-            ← (opens.log.all (was h) ∙ rows_split old s stands),
-            ← (again_law (shown_stores old s) s.manifest.current.active (settled_rows old s.active.log ++ waiting_rows old s.active.log) (all_rows new after.log)),
-            ← now_is,
-          )
-          at (all_sound old s stands (was h));
+      sound = λ h. rw (
+        ← (opens.log.all (was h) ∙ rows_split old s stands),
+        ← (again_law (shown_stores old s) s.manifest.current.active (settled_rows old s.active.log ++ waiting_rows old s.active.log) (all_rows new after.log)),
+        ← now_is,
+      ) at (all_sound old s stands (was h));
       said = λ h. rw (← now_is) at (said_with_rows s.manifest.digests s.manifest.current.active (settled_rows old s.active.log ++ waiting_rows old s.active.log)
           (shown_stores old s) (stands.said (was h)));
       counted = λ h. cc (stands.counted (was h), now_rows (was h), append-nil (rows_of now), none);
@@ -106,14 +104,13 @@ module _ (old new : Content) (s : EngineState) (after : LogStoreState) (stands :
       moves = λ h. record {
         moved = waiting_commands old s;
         rest = ap (λ (rows : List StoredRow). waiting_commands old s ++ map command_of rows) none;
-        base =
-            cc (
-              base_is new (with_active s after s.charge),
-              shown_are new (with_active s after s.charge) now same_shape same_body named (there h),
-              now_is,
-              map_with_more (shown_stores old s) s.manifest.current.active (settled_rows old s.active.log) [] (active_is old s stands) (has_active old s stands h) (waiting_rows old s.active.log),
-              base_is old s,
-            );
+        base = cc (
+          base_is new (with_active s after s.charge),
+          shown_are new (with_active s after s.charge) now same_shape same_body named (there h),
+          now_is,
+          map_with_more (shown_stores old s) s.manifest.current.active (settled_rows old s.active.log) [] (active_is old s stands) (has_active old s stands h) (waiting_rows old s.active.log),
+          base_is old s,
+        );
       };
     }
 
@@ -128,12 +125,11 @@ module _ (old new : Content) (s : EngineState) (after : LogStoreState) (stands :
     flush_breaks = record {
       each = λ h image left.
           let o : IsTrue old.honest = was h in
-          let has : HasBeginning old s.active.log image = opens.log.images.each h image left in
+          let has = opens.log.images.each h image left in
           let waiting : List StoredRow = waiting_rows old s.active.log in
           let some : List StoredRow = take has.0 waiting in
           let from = changed.left o image left in
-          let is : image_stores image ≡ Ok (with_log_rows s.manifest.current.active (settled_rows old s.active.log ++ some) (shown_stores old s)) =
-          torn_active old s stands from.0 image _ (stands.named.each o from.0 from.1) from.2 has.2 in
+          let is = torn_active old s stands from.0 image _ (stands.named.each o from.0 from.1) from.2 has.2 in
           record {
             kept = map command_of some;
             begins = record { rest = map command_of (drop has.0 waiting); is = sym (map-append command_of some (drop has.0 waiting)) ∙ ap (map command_of) (take-append-drop has.0 waiting) };
@@ -146,9 +142,7 @@ module _ (old new : Content) (s : EngineState) (after : LogStoreState) (stands :
     pub flush_failed_map : Remaps [] old new s (with_active s after s.charge)
     flush_failed_map h =
         let same : after.log ≡ s.active.log = opens.log.log in
-        let is : image_stores (full_image new s) ≡ Ok (with_log_rows s.manifest.current.active (settled_rows old s.active.log ++ waiting_rows old s.active.log) (shown_stores old s)) =
-        full_with old new s stands sizes changed (there h) _ _ refl refl stands.active.bounds
-        (opens.log.full h ∙ rows_split old s stands) in
+        let is = full_with old new s stands sizes changed (there h) _ _ refl refl stands.active.bounds (opens.log.full h ∙ rows_split old s stands) in
         cc (map_with_rows old s stands h (full_image new s) (waiting_rows old s.active.log) is, full_map old s stands h)
 
 -- nor if no row waits

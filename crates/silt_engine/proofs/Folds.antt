@@ -48,9 +48,8 @@ does_next rows n row a b c inside is first second =
     rw (← (take_more rows n row inside ∙ ap (λ (r : StoredRow). take n rows ++ r ∷ []) is)) at (does_more (take n rows) (row ∷ []) a b c first second)
 
 -- one more entry was done
-pub does_entry : (rows : List StoredRow) (place : ℕ) (bytes : List ℕ) (key : Key) (value : List ℕ) (a b c : BTreeMap Key (List ℕ))
-    → HasEntry rows place bytes → key.0 ≡ take 20 bytes → value ≡ drop 20 bytes
-    → DoesRows (take place rows) a b → DoesRows (stored_row Put key value ∷ []) b c → DoesRows (take (place + 1) rows) a c
+pub does_entry : (rows : List StoredRow) (place : ℕ) (bytes : List ℕ) (key : Key) (value : List ℕ) (a b c : BTreeMap Key (List ℕ)) → HasEntry rows place bytes → key.0 ≡ take 20 bytes
+    → value ≡ drop 20 bytes → DoesRows (take place rows) a b → DoesRows (stored_row Put key value ∷ []) b c → DoesRows (take (place + 1) rows) a c
 does_entry rows place bytes key value a b c there key_is value_is first second =
     let row : StoredRow = entry_row bytes in
     does_next rows place row a b c (slice_get_within rows place row there) (get_or_from_slice_get rows place row row there) first (does_row row key value b c refl key_is value_is second)
@@ -69,8 +68,7 @@ module _ (shape : Shape) (region : ℕ) (image : List ℕ) where
 
   -- one slot more was done
   pub does_slot : (slot : ℕ) (a b c : BTreeMap Key (List ℕ)) → DoesRows (filter has_known_kind (rows_before shape region image slot)) a b
-      → DoesRows (filter has_known_kind (slot_row shape region image slot ∷ [])) b c
-      → DoesRows (filter has_known_kind (rows_before shape region image (slot + 1))) a c
+      → DoesRows (filter has_known_kind (slot_row shape region image slot ∷ [])) b c → DoesRows (filter has_known_kind (rows_before shape region image (slot + 1))) a c
   does_slot slot a b c first second = search (arith, before_more, filter-append, does_more)
 
   -- all slots were done

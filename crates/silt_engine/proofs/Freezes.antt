@@ -31,8 +31,7 @@ module _ (old new : Content) (s : EngineState) (at count : ℕ) (stands : Stands
     (apart : IsTrue old.honest → IsApart s.manifest.shape s.manifest.current at count)
     (outside : LiesOutside (commits_at s.manifest.shape s.manifest.current.active) (log_len s.manifest.shape) at count) where
   pub kept : KeepsRows old new s.active.log s.active.log
-  kept = log_elsewhere old new _ at count stands.active (omega (arith, active_size old s stands)) sizes
-      (rw (← stands.whole.active_region, ← stands.whole.has_shape) at outside) changes
+  kept = log_elsewhere old new _ at count stands.active (omega (arith, active_size old s stands)) sizes (rw (← stands.whole.active_region, ← stands.whole.has_shape) at outside) changes
 
   -- the stores stand in this state, with the same rows waiting
   module _ (m : ManifestState) (converting : Option ConversionState) (merging : Option MergeState) (same_shape : m.shape ≡ s.manifest.shape)
@@ -133,9 +132,8 @@ module _ (old new : Content) (s : EngineState) (region : ℕ) (stands : Stands o
 
   -- the stores still stand
   pub cleared : Advances [] old new s s
-  cleared = stays_on old new s _ _ stands sizes in_region (λ h. region_apart _ _ region below free) outside_active (λ h. region_before_conversion s region
-      below) (λ h. region_before_merge s region below) _ refl refl refl stands.idle (current_record_elsewhere _ _ _ old new (omega (arith, stands.has_size)) (inr
-      (omega arith)) in_region stands.current) free_named
+  cleared = stays_on old new s _ _ stands sizes in_region (λ h. region_apart _ _ region below free) outside_active (λ h. region_before_conversion s region below) (λ h. region_before_merge s
+      region below) _ refl refl refl stands.idle (current_record_elsewhere _ _ _ old new (omega (arith, stands.has_size)) (inr (omega arith)) in_region stands.current) free_named
 
 -- ---- the manifest
 

@@ -1,13 +1,13 @@
 -- What a walk through the stores finds.
-use Rattle.silt_engine.proofs.Common.{◌≡◌, ◌≢◌, ◌<◌, ◌*◌, ℕ, ◌==◌, Bool, true, false, cond, if◌then◌else◌, IsTrue, List, [], ◌∷◌, ◌++◌, suc, zero, inl, inr, length, filter, map, take}
-use Rattle.silt_engine.proofs.Common.{get_or, Option, Some, None, refl, ap, sym, ◌∙◌, arith, append_assoc, All, bytes_eq, get, and_from, and_parts, cases_Bool, get_or-map, length-map}
-use Rattle.silt_engine.proofs.Common.{filter-append, list_any_at, get_or_from_slice_get, slice_get_within, bytes_eq-Decides, Content, Shape, is_put, kind_byte, Kind, Put, Delete}
-use Rattle.silt_engine.proofs.Common.{rows_before, slot_row, hash_part, hash_rows, HashState, all_before, log_rows, row_at, has_known_kind, StoredRow, all_rows, settled_rows, waiting_rows}
-use Rattle.silt_engine.proofs.Common.{all_are_settled_and_waiting, row_of_all, all_count, LogStoreState, FindsLast, HasNoRow, IsLastRow, Found, Body, oldest_first, sorted_rows, entries_of}
-use Rattle.silt_engine.proofs.Common.{hash_findings, holds_key, map_of_rows, sorted_findings, map_law, finds_nothing, HasNoEntry, HasOnlyValue, entries_law, Holder, Active, Frozen, Hashed}
-use Rattle.silt_engine.proofs.Common.{EngineState, Stands, current_map, shown_stores, hashed_rows, FindsFrozen, FindsHashed, FindsNewest, frozen_at, hash_store_at, hash_rows_of, row_in}
-use Rattle.silt_engine.proofs.Common.{reverse, option_and_then, option_or, or_parts, reverse-append, find-append, kind_of, is_row_of, before_at, before_count, before_taken, before_there}
-use Rattle.silt_engine.proofs.Common.{unsound_twice, newest_row, value_given, newest_law, IsOnlyRow, ShowsStores, value_found}
+use Rattle.silt_engine.proofs.Common.{◌≡◌, ◌≢◌, ◌<◌, ◌*◌, ℕ, true, false, cond, IsTrue, List, [], ◌∷◌, ◌++◌, suc, zero, inl, inr, length, filter, map, take, get_or, Option, Some, None, refl}
+use Rattle.silt_engine.proofs.Common.{ap, sym, ◌∙◌, arith, append_assoc, All, bytes_eq, get, and_from, and_parts, cases_Bool, get_or-map, length-map, filter-append, list_any_at}
+use Rattle.silt_engine.proofs.Common.{get_or_from_slice_get, slice_get_within, bytes_eq-Decides, Content, Shape, kind_byte, Kind, Put, Delete, rows_before, slot_row, hash_part, hash_rows}
+use Rattle.silt_engine.proofs.Common.{HashState, all_before, log_rows, row_at, has_known_kind, StoredRow, all_rows, waiting_rows, all_are_settled_and_waiting, row_of_all, all_count}
+use Rattle.silt_engine.proofs.Common.{LogStoreState, FindsLast, HasNoRow, IsLastRow, Found, Body, oldest_first, sorted_rows, entries_of, hash_findings, holds_key, map_of_rows}
+use Rattle.silt_engine.proofs.Common.{sorted_findings, map_law, finds_nothing, HasNoEntry, HasOnlyValue, entries_law, Holder, Active, Frozen, Hashed, EngineState, Stands, current_map}
+use Rattle.silt_engine.proofs.Common.{shown_stores, hashed_rows, FindsFrozen, FindsHashed, FindsNewest, frozen_at, hash_store_at, hash_rows_of, row_in, reverse, option_and_then, option_or}
+use Rattle.silt_engine.proofs.Common.{or_parts, reverse-append, find-append, kind_of, is_row_of, before_at, before_count, before_taken, before_there, unsound_twice, newest_row, value_given}
+use Rattle.silt_engine.proofs.Common.{newest_law, IsOnlyRow, ShowsStores, value_found}
 use Rattle.std.proofs.Common.{slice_get}
 use Rattle.std.specs.Option.{is_some}
 use Rattle.silt_hash_store.proofs.Growing.{all_sound}
@@ -45,11 +45,10 @@ newest_last (first ∷ rows) key zero row is =
     let same : first ≡ row = let e : Some first ≡ Some row = is.there in cc in
     let key_is : bytes_eq first.key key ≡ true = (bytes_eq-Decides first.key key).1 (ap (λ (r : StoredRow). r.key) same ∙ is.has_key) in
     cc (newest_append (first ∷ []) rows key, newest_none rows key (λ later inside. is.last (suc later) (omega arith) (omega (arith, inside))), newest_one first key)
-newest_last (first ∷ rows) key (suc place) row is =
-    cc (
-      newest_append (first ∷ []) rows key,
-      newest_last rows key place row (record { there = is.there; has_key = is.has_key; last = λ later past inside. is.last (suc later) (omega (arith, past)) (omega (arith, inside)) }),
-    )
+newest_last (first ∷ rows) key (suc place) row is = cc (
+  newest_append (first ∷ []) rows key,
+  newest_last rows key place row (record { there = is.there; has_key = is.has_key; last = λ later past inside. is.last (suc later) (omega (arith, past)) (omega (arith, inside)) }),
+)
 
 -- if a row is the only one of the key
 newest_only : (rows : List StoredRow) (key : List ℕ) (place : ℕ) (row : StoredRow) → IsOnlyRow rows key place row → newest_row rows key ≡ Some row
@@ -60,18 +59,11 @@ newest_only rows key place row is = search (arith, newest_last)
 -- the newest row among those of known kinds, with one row more in front
 newest_known_more : (row : StoredRow) (rows : List StoredRow) (key : List ℕ) → newest_row (filter has_known_kind (row ∷ rows)) key
     ≡ option_or (newest_row (filter has_known_kind rows) key) (newest_row (filter has_known_kind (row ∷ [])) key)
-newest_known_more row rows key =
-    cc (filter-append has_known_kind (row ∷ []) rows, newest_append (filter has_known_kind (row ∷ [])) (filter has_known_kind rows) key)
+newest_known_more row rows key = cc (filter-append has_known_kind (row ∷ []) rows, newest_append (filter has_known_kind (row ∷ [])) (filter has_known_kind rows) key)
 
 -- a row that is not one of the key
 newest_known_other : (row : StoredRow) (key : List ℕ) → is_row_of key row ≡ false → newest_row (filter has_known_kind (row ∷ [])) key ≡ None
-newest_known_other row key other = go _ refl
-  where
-    go : (known : Bool) → has_known_kind row ≡ known → newest_row (filter has_known_kind (row ∷ [])) key ≡ None
-    go true known =
-        let differs : bytes_eq row.key key ≡ false = rw known at other in
-        rw known (newest_one row key ∙ ap (λ (b : Bool). cond b (Some row) None) differs)
-    go false unknown = rw unknown refl
+newest_known_other row key other = search (arith, newest_one)
 
 -- a row of the key
 newest_known_this : (row : StoredRow) (key : List ℕ) → is_row_of key row ≡ true → newest_row (filter has_known_kind (row ∷ [])) key ≡ Some row
@@ -80,9 +72,7 @@ newest_known_this row key is = search (arith, and_parts, newest_one)
 -- if no row of a known kind has the key
 pub newest_known_none : (rows : List StoredRow) (key : List ℕ) → holds_key key rows ≡ false → newest_row (filter has_known_kind rows) key ≡ None
 newest_known_none [] key none = refl
-newest_known_none (row ∷ rows) key none =
-    let parts = or_parts (is_row_of key row) (holds_key key rows) none in
-    cc (newest_known_more row rows key, newest_known_none rows key parts.1, newest_known_other row key parts.0)
+newest_known_none (row ∷ rows) key none = search (arith, newest_known_none rows key, or_parts, newest_known_more, newest_known_other)
 
 -- no row of a list has the key
 all_other : (rows : List StoredRow) (key : List ℕ) → ((later : ℕ) (other : StoredRow) → slice_get rows later ≡ Some other → is_row_of key other ≡ false) → holds_key key rows ≡ false
@@ -145,12 +135,10 @@ module _ (shape : Shape) (region : ℕ) (image : List ℕ) (key : List ℕ) wher
 
 pub walk_none : (stores : List (List StoredRow)) (key : List ℕ) → ((index : ℕ) → index < length stores → newest_row (get_or stores index []) key ≡ None) → newest_row (oldest_first stores) key ≡ None
 walk_none [] key none = refl
-walk_none (newest ∷ older) key none =
-    cc (newest_append (oldest_first older) newest key, none 0 (omega arith), walk_none older key (λ index inside. none (suc index) (omega (arith, inside))))
+walk_none (newest ∷ older) key none = cc (newest_append (oldest_first older) newest key, none 0 (omega arith), walk_none older key (λ index inside. none (suc index) (omega (arith, inside))))
 
 pub walk_some : (stores : List (List StoredRow)) (key : List ℕ) (number : ℕ) (row : StoredRow) → number < length stores
-    → ((index : ℕ) → index < number → newest_row (get_or stores index []) key ≡ None)
-    → newest_row (get_or stores number []) key ≡ Some row → newest_row (oldest_first stores) key ≡ Some row
+    → ((index : ℕ) → index < number → newest_row (get_or stores index []) key ≡ None) → newest_row (get_or stores number []) key ≡ Some row → newest_row (oldest_first stores) key ≡ Some row
 walk_some [] key number row inside none is = absurd (omega arith)
 walk_some (newest ∷ older) key zero row inside none is = cc (newest_append (oldest_first older) newest key)
 walk_some (newest ∷ older) key (suc number) row inside none is =
@@ -213,23 +201,7 @@ module _ (content : Content) (s : EngineState) (shows : ShowsStores content s) (
 
   -- all rows, the oldest first: the entries, those of the hash stores, of the frozen logs and of the active one
   pub rows_by_log : rows_of (shown_stores content s) ++ waiting_rows content s.active.log ≡ rows_behind content s ++ oldest_first (map (rows_in content) s.frozen) ++ all_rows content s.active.log
-  rows_by_log =
-      let behind : List StoredRow = rows_behind content s in
-      let frozen : List StoredRow = oldest_first (map (rows_in content) s.frozen) in
-      let hash_parts : List (List StoredRow) = map (λ region. filter has_known_kind (hash_rows s.manifest.shape region content.shown)) s.manifest.current.hashed in
-      let frozen_parts : List (List StoredRow) = map (λ region. log_rows s.manifest.shape region content.shown) s.manifest.current.frozen in
-      let shown : List StoredRow = log_rows s.manifest.shape s.manifest.current.active content.shown in
-      cc (
-        named_rows s.manifest.shape s.manifest.current content.shown,
-        entries_shown,
-        hash_store_rows,
-        frozen_rows,
-        active_shown,
-        shows.active honest,
-        append_assoc behind frozen (settled_rows content s.active.log),
-        append_assoc (behind ++ frozen) (settled_rows content s.active.log) (waiting_rows content s.active.log),
-        all_are_settled_and_waiting content s.active.log shows.bounds.order,
-      )
+  rows_by_log = search (arith, named_rows, entries_shown, hash_store_rows, frozen_rows, active_shown, append_assoc, all_are_settled_and_waiting)
 
   -- the map that lookups read
   pub current_is : current_map content s ≡ map_of_rows (rows_behind content s ++ oldest_first (map (rows_in content) s.frozen) ++ all_rows content s.active.log)
@@ -259,17 +231,7 @@ module _ (content : Content) (s : EngineState) (stands : Stands content s) (hone
 
   its_value : (holder : Holder) (found : Found) (row : StoredRow) → kind_byte found.kind ≡ row.kind → row ≡ row_in content s holder found.place → value_given row ≡ value_found content s holder found
   its_value holder found row kind is =
-      let go : (k : Kind) → found.kind ≡ k → value_given row ≡ value_found content s holder found = elim [
-        | Put ↦ λ e.
-            let one : row.kind ≡ 1 = sym kind ∙ ap kind_byte e in
-            ap (λ (n : ℕ). if n == 1 then Some row.value else None) one
-            ∙ ap (λ (r : StoredRow). Some r.value) is
-            ∙ ap (λ (k : Kind). if is_put k then Some (row_in content s holder found.place).value else None) (sym e)
-        | Delete ↦ λ e.
-            let two : row.kind ≡ 2 = sym kind ∙ ap kind_byte e in
-            ap (λ (n : ℕ). if n == 1 then Some row.value else None) two
-            ∙ ap (λ (k : Kind). if is_put k then Some (row_in content s holder found.place).value else None) (sym e)
-      ] in
+      let go : (k : Kind) → found.kind ≡ k → value_given row ≡ value_found content s holder found = search arith in
       go found.kind refl
 
   -- the row is in the active log
@@ -305,13 +267,12 @@ module _ (content : Content) (s : EngineState) (stands : Stands content s) (hone
   -- no log has one
   past_frozen : (key : List ℕ) → HasNoRow (all_rows content s.active.log) key → FindsFrozen content s key None
       → get (current_map content s) key ≡ option_and_then value_given (option_or (newest_row (hashed_rows content s) key) (newest_row (entries_of content s.sorted) key))
-  past_frozen key none frozen =
-      cc (
-        past_active key none,
-        walk_none (map (rows_in content) s.frozen) key (λ index inside. let here : index < length s.frozen =
-            omega (arith, inside, length-map s.frozen (rows_in content)) in frozen_lacks key index here (frozen index here)),
-        newest_append (entries_of content s.sorted) (hashed_rows content s) key,
-      )
+  past_frozen key none frozen = cc (
+    past_active key none,
+    walk_none (map (rows_in content) s.frozen) key (λ index inside. let here : index < length s.frozen =
+        omega (arith, inside, length-map s.frozen (rows_in content)) in frozen_lacks key index here (frozen index here)),
+    newest_append (entries_of content s.sorted) (hashed_rows content s) key,
+  )
 
   -- the rows of a hash store, by its number
   known_at : (index : ℕ) → index < length s.hashes → get_or (map (known_in content) s.hashes) index [] ≡ known_in content (hash_store_at s index)
@@ -338,12 +299,11 @@ module _ (content : Content) (s : EngineState) (stands : Stands content s) (hone
   -- no hash store has one
   pub past_hashed : (key : List ℕ) → HasNoRow (all_rows content s.active.log) key → FindsFrozen content s key None → FindsHashed content s key None
       → get (current_map content s) key ≡ option_and_then value_given (newest_row (entries_of content s.sorted) key)
-  past_hashed key none frozen hashed =
-      cc (
-        past_frozen key none frozen,
-        walk_none (map (known_in content) s.hashes) key (λ index inside. let here : index < length s.hashes =
-            omega (arith, inside, length-map s.hashes (known_in content)) in hash_lacks key index here (hashed index here)),
-      )
+  past_hashed key none frozen hashed = cc (
+    past_frozen key none frozen,
+    walk_none (map (known_in content) s.hashes) key (λ index inside. let here : index < length s.hashes =
+        omega (arith, inside, length-map s.hashes (known_in content)) in hash_lacks key index here (hashed index here)),
+  )
 
   -- the row is an entry, and this is its value
   pub found_value : (key value : List ℕ) → FindsNewest content s key None → HasOnlyValue (entries_of content s.sorted) key value → get (current_map content s) key ≡ Some value

@@ -25,10 +25,9 @@ module _ (content : Content) (s : EngineState) (stands : Stands content s) where
 
   -- nothing is found in what a merge takes
   pub taken_sound : IsTrue content.honest → (count : ℕ) → AreSound content.shown (oldest_stores count s.hashes) s.sorted
-  taken_sound h count = sound_stores content (oldest_stores count s.hashes) s.sorted h (All-drop (λ (store : HashState). store.shape ≡ s.sorted.shape) (length
-      s.hashes - count) s.hashes (λ k d inside. (stands.whole.hashed k d inside).has_shape ∙ sym sorted_shape)) (All-drop IsHeldHash (length s.hashes - count)
-      s.hashes (λ k d inside. (stands.whole.hashed k d inside).held)) (All-drop (IsHashStore content) (length s.hashes - count) s.hashes stands.hashed)
-      (shown_entries h)
+  taken_sound h count = sound_stores content (oldest_stores count s.hashes) s.sorted h (All-drop (λ (store : HashState). store.shape ≡ s.sorted.shape) (length s.hashes - count) s.hashes (λ k
+      d inside. (stands.whole.hashed k d inside).has_shape ∙ sym sorted_shape)) (All-drop IsHeldHash (length s.hashes - count) s.hashes (λ k d inside. (stands.whole.hashed k d inside).held))
+      (All-drop (IsHashStore content) (length s.hashes - count) s.hashes stands.hashed) (shown_entries h)
 
   -- the stores of the full image
   pub full_is : IsTrue content.honest → spec.full_stores content s ≡ with_log_rows s.manifest.current.active (all_rows content s.active.log) (shown_stores content s)
@@ -49,8 +48,7 @@ module _ (content : Content) (s : EngineState) (stands : Stands content s) where
       each None merging merged = tt
       each (Some merge) merging merged =
           let way : IsMerging s merge = merging in
-          rw (← (sources_full h merge.stores)) at (done_steps merge s.sorted content (oldest_stores merge.stores s.hashes) (is_done merge s.sorted) refl way.held merged.0
-          h (taken_sound h merge.stores))
+          rw (← (sources_full h merge.stores)) at (done_steps merge _ _ _ _ refl way.held merged.0 h (taken_sound h _))
 
 -- ---- a merge that is done
 
@@ -91,19 +89,18 @@ module _ (content : Content) (s : EngineState) (merge : MergeState) (stands : St
   room : IsTrue content.honest → length (merged_rows rows) ≤ s.manifest.shape.sorted_capacity
   room h =
       let few = (key_count_law rows).1 in
-      let most = charge_law t (shown_sound content s stands h) in
-      let capacity : t.shape.sorted_capacity ≡ s.manifest.shape.sorted_capacity = ap (λ (sh : Shape). sh.sorted_capacity) (named_shape s.manifest.shape s.manifest.current content.shown) in
+      let most = charge_law t (shown_sound _ s stands h) in
+      let capacity : t.shape.sorted_capacity ≡ s.manifest.shape.sorted_capacity = ap (λ (sh : Shape). sh.sorted_capacity) (named_shape _ _ _) in
       omega (arith, few, most, capacity, taken_puts)
 
   -- and are the newest rows that are puts
   pub entries_are : IsTrue content.honest → new_entries ≡ merged_rows rows
-  entries_are h =
-      cc (
-        way.has_shape,
-        done_entries merge s.sorted content (oldest_stores merge.stores s.hashes) way.held done gathered.0 h (taken_sound content s stands h merge.stores),
-        sources_shown content s stands merge.stores,
-        take_all s.manifest.shape.sorted_capacity (merged_rows rows) (room h),
-      )
+  entries_are h = cc (
+    way.has_shape,
+    done_entries merge s.sorted content (oldest_stores merge.stores s.hashes) way.held done gathered.0 h (taken_sound content s stands h merge.stores),
+    sources_shown content s stands merge.stores,
+    take_all s.manifest.shape.sorted_capacity (merged_rows rows) (room h),
+  )
 
   is_merge : IsTrue content.honest → IsMergeOf rows new_entries
   is_merge h = subst (IsMergeOf rows) (sym (entries_are h)) (merged_law rows)
@@ -135,8 +132,7 @@ module _ (content : Content) (s : EngineState) (merge : MergeState) (stands : St
       let waiting : List StoredRow = waiting_rows content s.active.log in
       let taken : put_count rows ≡ s.sorted.count + puts_in (oldest_stores merge.stores s.hashes) =
       ap put_count (sources_shown content s stands merge.stores)
-      ∙ sources_puts content (oldest_stores merge.stores s.hashes) s.sorted h
-      (All-drop (λ (store : HashState). store.shape ≡ s.sorted.shape) (length s.hashes - merge.stores) s.hashes
+      ∙ sources_puts content (oldest_stores merge.stores s.hashes) s.sorted h (All-drop (λ (store : HashState). store.shape ≡ s.sorted.shape) (length s.hashes - merge.stores) s.hashes
       (λ k d inside. (stands.whole.hashed k d inside).has_shape ∙ sym (sorted_shape content s stands)))
       (All-drop (IsHashStore content) (length s.hashes - merge.stores) s.hashes stands.hashed) in
       let written : length new_entries ≡ merge.written = entry_count s.manifest.shape merge.region merge.written content.shown in
@@ -154,8 +150,7 @@ module _ (content : Content) (s : EngineState) (merge : MergeState) (stands : St
       let stores : List HashState = oldest_stores merge.stores s.hashes in
       record {
         hashes = λ k d inside. rw way.has_shape at (gathered.1.hashes sound k (get_or stores k d)
-            (omega (arith, eqb-true merge.store merge.stores (and_parts _ _ parts.0).0, way.most, length-drop (length s.hashes - merge.stores) s.hashes)) (slice_get-get_or
-            stores k d inside));
+            (omega (arith, eqb-true merge.store merge.stores (and_parts _ _ parts.0).0, way.most, length-drop (length s.hashes - merge.stores) s.hashes)) (slice_get-get_or stores k d inside));
         entries = λ some. rw way.has_shape at (gathered.1.entries sound some (leb-true s.sorted.count merge.passed parts.1));
       }
 

@@ -33,9 +33,7 @@ module _ (s t : EngineState) (seals : SealsMerge s t) where
 
   -- the step's work so far
   pub sealed_works : {D F E : Type 0} (facts : Ghosts D F) (disk : D) → Stands (facts.content disk) s → Works {E = E} facts [] 0 0 disk disk s t (Ok (tt {0}))
-  sealed_works {E = E} facts disk stands = subst (λ (v : EngineState). Works {E = E} facts [] 0 0 disk disk s v (Ok (tt {0}))) (sym sealed_is)
-      (went_so facts [] disk disk s _ (Ok (tt {0})) (record { size = refl; honest = refl }) stands refl (seal_advances (facts.content disk) s seals.merge (Some seals.seals.made) seals.was stands)
-      none_made)
+  sealed_works {E = E} facts disk stands = search (arith, sealed_is, went_so, seal_advances, none_made, facts.content)
 
   pub sealed_stands : (content : Content) → Stands content s → Stands content t
   sealed_stands content stands = subst (Stands content) (sym sealed_is) (seal_advances _ s _ _ seals.was stands).stands
@@ -75,9 +73,8 @@ may_end before s body digests digest seals done sound unspent is digests_are dig
     let was : s.merging ≡ Some seals.sealed = ap (λ (v : EngineState). v.merging) seals.is in
     let trie = seals.seals.made in
     let same = seals.seals.same in
-    let earlier : (content : Content) (stores : List HashState) (sorted : SortedState) → HasMerged content stores sorted seals.sealed
-    → HasMerged content stores sorted seals.merge = λ content stores sorted merged.
-    merged_with_trie (with_trie seals.merge (Some trie)) seals.merge.index.sealed content stores sorted (rw same at merged) in
+    let earlier : (content : Content) (stores : List HashState) (sorted : SortedState) → HasMerged content stores sorted seals.sealed → HasMerged content stores sorted seals.merge = λ
+    content stores sorted merged. merged_with_trie (with_trie seals.merge (Some trie)) seals.merge.index.sealed content stores sorted (rw same at merged) in
     let done_before : is_done seals.merge s.sorted ≡ true = ap (λ (m : MergeState). is_done m s.sorted) (sym same) ∙ done in
     let made_of : sorted_in seals.sealed ≡ sorted_in seals.merge = ap sorted_in same in (
       record { sorted = sorted_in seals.sealed; index = trie; digest = digest },
@@ -90,9 +87,8 @@ may_end before s body digests digest seals done sound unspent is digests_are dig
         entries = refl;
         located = λ content stands honest.
             let gathers = (gathered_of content s seals.sealed stands was).0 in
-            subst (λ (t : SortedState). IsIndexOf (entries_of content t) trie) (sym made_of)
-            (seals.seals.indexed content (oldest_stores seals.sealed.stores s.hashes) s.sorted done_before (earlier content (oldest_stores seals.sealed.stores s.hashes) s.sorted gathers) honest
-            (taken_sound content s stands honest seals.sealed.stores));
+            subst (λ (t : SortedState). IsIndexOf (entries_of content t) trie) (sym made_of) (seals.seals.indexed content (oldest_stores seals.sealed.stores s.hashes) s.sorted done_before
+            (earlier content (oldest_stores seals.sealed.stores s.hashes) s.sorted gathers) honest (taken_sound content s stands honest seals.sealed.stores));
         digested = λ content stands. digested content (oldest_stores seals.sealed.stores s.hashes) s.sorted (gathered_of content s seals.sealed stands was).0;
         is = is;
         digests_are = digests_are;

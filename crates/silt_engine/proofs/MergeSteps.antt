@@ -1,10 +1,10 @@
 -- The steps of a merge.
-use Rattle.silt_engine.proofs.Common.{cases_Bool, ◌≡◌, ◌≢◌, ◌<◌, ℕ, ◌+◌, ◌-◌, ◌*◌, ◌==◌, nat_le, nat_lt, Bool, true, false, if◌then◌else◌, IsTrue, List, [], length, drop, Option, Some, None}
-use Rattle.silt_engine.proofs.Common.{Result, ◌⊎◌, inl, inr, refl, ap, sym, ◌∙◌, subst, arith, All, IfSome, eq-eqb, eqb-false, lt-ltb, ne_eqb, All-drop, ChangesWithin, Content, MakesAtMost}
-use Rattle.silt_engine.proofs.Common.{Ghosts, sorted_at, sorted_size, HashState, IsHashStore, HasCompared, HasMerged, MergeState, is_done, oldest_stores, steps_of, TakesMemory, SortedState}
-use Rattle.silt_engine.proofs.Common.{Progress, Finished, Idle, Moved, AreWhole, IsHashOf, IsMerging, EngineState, HasGathered, SameDisk, Stands, Advances, Breaks, Remaps, is_work}
-use Rattle.silt_engine.proofs.Common.{step_syncs, step_writes, written_by_merge, Damaged, damaged_in, merge_turn, ◌&&◌, option_map, MatchesDigests, IsSameMerge, IsHeldMerge, FailsMerge}
-use Rattle.silt_engine.proofs.Common.{GoesOn, TakesStep, damaged_place, StepMakes, MayLackMemory, MergeErrorCause, Merges, merge_progress, place_read}
+use Rattle.silt_engine.proofs.Common.{cases_Bool, ◌≡◌, ◌<◌, ℕ, ◌+◌, ◌-◌, ◌==◌, Bool, true, false, if◌then◌else◌, IsTrue, List, [], length, drop, Option, Some, None, Result, ◌⊎◌, inl, inr}
+use Rattle.silt_engine.proofs.Common.{refl, ap, sym, ◌∙◌, subst, arith, All, IfSome, eq-eqb, eqb-false, lt-ltb, ne_eqb, All-drop, ChangesWithin, Content, MakesAtMost, Ghosts, sorted_at}
+use Rattle.silt_engine.proofs.Common.{sorted_size, HashState, HasCompared, HasMerged, MergeState, is_done, oldest_stores, steps_of, TakesMemory, SortedState, Progress, Finished, Idle, Moved}
+use Rattle.silt_engine.proofs.Common.{AreWhole, IsHashOf, IsMerging, EngineState, HasGathered, SameDisk, Stands, Advances, Breaks, Remaps, is_work, step_syncs, step_writes, written_by_merge}
+use Rattle.silt_engine.proofs.Common.{Damaged, damaged_in, merge_turn, option_map, MatchesDigests, IsSameMerge, IsHeldMerge, FailsMerge, GoesOn, TakesStep, damaged_place, StepMakes}
+use Rattle.silt_engine.proofs.Common.{MayLackMemory, MergeErrorCause, Merges, merge_progress, place_read}
 use Rattle.silt_merge.specs.declared.merge.StepError.TheVariants as step_error
 use Rattle.silt_event.specs.declared.place.Place.{Place}
 use Rattle.silt_merge.specs.declared.merge.StepError.{StepError}
@@ -32,10 +32,7 @@ module _ (s : EngineState) where
 
   -- a merge that finishes is done
   pub is_finished : (merge : MergeState) → s.merging ≡ Some merge → merge_turn s ≡ Finished → is_done merge s.sorted ≡ true
-  is_finished merge was turn = elim (cases_Bool (is_done merge s.sorted)) [
-    | inl is ↦ is
-    | inr more ↦ absurd (cc (under_way_turn merge false was (sym more)))
-  ]
+  is_finished merge was turn = search (arith, cases_Bool, under_way_turn)
 
 -- ---- the merge under way
 
@@ -65,10 +62,7 @@ StepsIn facts s old new before after result = TakesStep facts (oldest_stores bef
 pub steps_in : {D F T : Type 0} {facts : Ghosts D F} (s : EngineState) (stores : List HashState) (sorted : SortedState) (digest : List ℕ)
     {old new : D} {before after : MergeState} {result : Result T (StepError F)} → stores ≡ s.hashes → sorted ≡ s.sorted → digest ≡ s.digest
     → TakesStep facts (oldest_stores before.stores stores) sorted digest old new before after result → StepsIn facts s old new before after result
-steps_in {facts = facts} s stores sorted digest {old = old} {new = new} {before = before} {after = after} {result = result} stores_are sorted_is digest_is step =
-    subst (λ (d : List ℕ). TakesStep facts (oldest_stores before.stores s.hashes) s.sorted d old new before after result) digest_is
-    (subst (λ (t : SortedState). TakesStep facts (oldest_stores before.stores s.hashes) t digest old new before after result) sorted_is
-    (subst (λ (l : List HashState). TakesStep facts (oldest_stores before.stores l) sorted digest old new before after result) stores_are step))
+steps_in {facts = facts} s stores sorted digest {old = old} {new = new} {before = before} {after = after} {result = result} stores_are sorted_is digest_is step = search (arith, sorted_is)
 
 module _ {D F T : Type 0} (facts : Ghosts D F) (old new : D) (s : EngineState) (before after : MergeState) (result : Result T (StepError F))
     (stands : Stands (facts.content old) s) (way : IsMerging s before)
@@ -99,13 +93,7 @@ module _ {D F T : Type 0} (facts : Ghosts D F) (old new : D) (s : EngineState) (
 
   -- the stores of the merge match their digests
   matches : HasGathered (facts.content old) s before → IsTrue (facts.content old).honest → MatchesDigests (facts.content old) (oldest_stores before.stores s.hashes) s.sorted s.digest before
-  matches gathered h = record {
-    honest = h;
-    merged = gathered.0;
-    sound = taken_sound _ s stands h _;
-    hashes = All-drop (IsHashStore (facts.content old)) (length s.hashes - before.stores) s.hashes stands.hashed;
-    entries = stands.digested;
-  }
+  matches gathered h = search (arith, taken_sound, All-drop)
 
   -- ---- it was done
 
@@ -203,16 +191,13 @@ module _ (s : EngineState) (started : MergeState) (begins : BeginsMerge s starte
 
   -- it has decided no key
   pub started_not_done : is_done started s.sorted ≡ false
-  started_not_done =
-      let differ : started.store ≢ started.stores = λ e. absurd (omega (arith, e, begins_store, begins.some, started_stores)) in
-      ap (λ (b : Bool). (b && (length started.waiting == 0)) && nat_le s.sorted.count started.passed) (ne_eqb started.store started.stores differ)
+  started_not_done = search (arith, begins_store, started_stores, ne_eqb)
 
   -- its hash stores are all
   all_taken : oldest_stores started.stores s.hashes ≡ s.hashes
   all_taken = ap (λ (n : ℕ). drop n s.hashes) (let nothing : length s.hashes - started.stores ≡ 0 = omega (arith, started_stores) in nothing)
 
-  pub begun : (content : Content) → HasMerged content begins.read begins.sorted started → HasCompared begins.read begins.sorted s.digest started
-      → HasGathered content s started
+  pub begun : (content : Content) → HasMerged content begins.read begins.sorted started → HasCompared begins.read begins.sorted s.digest started → HasGathered content s started
   begun content has compared = (
     rw (begins.sorted_is, (begins.read_is ∙ sym all_taken)) at has,
     rw (begins.sorted_is, (begins.read_is ∙ sym all_taken)) at compared,
@@ -221,10 +206,7 @@ module _ (s : EngineState) (started : MergeState) (begins : BeginsMerge s starte
 
   -- it reads the newest of them, and it has written nothing
   pub started_reads : damaged_place (oldest_stores started.stores s.hashes) started ≡ place_read s.hashes s.merging
-  started_reads =
-      let gathers : nat_lt started.store started.stores ≡ true =
-      lt-ltb started.store started.stores (omega (arith, begins_store, begins.some, started_stores)) in
-      cc (all_taken, begins_store, begins.none)
+  started_reads = search (arith, lt-ltb, begins_store, started_stores, all_taken)
 
   pub started_written : written_by_merge s.merging ≡ started.written
   started_written = cc (begins.none, begins.is)
@@ -233,40 +215,13 @@ module _ (s : EngineState) (started : MergeState) (begins : BeginsMerge s starte
   begins_turn = first_turn s begins.none begins.some
 
   pub begin_merges : (after : MergeState) → IsSameMerge started after → steps_of after ≡ steps_of started + 1
-      → (after.damaged ≡ None) ⊎ (after.damaged ≡ Some (damaged_place (oldest_stores started.stores s.hashes) started))
-      → Merges Moved s (record s { merging = Some after })
-  begin_merges after same step found =
-      record {
-        due = sym begins_turn;
-        done = record {
-          merge = after;
-          is = refl;
-          step = rw begins.none (
-            same.stores ∙ started_stores,
-            omega (arith, step, ap (λ (v : MergeState). v.store * (4 * started.shape.buckets)) begins.is, ap (λ (v : MergeState). v.slot) begins.is, ap (λ (v : MergeState). v.decided) begins.is),
-          );
-          found = elim found [
-            | inl nothing ↦ inl nothing
-            | inr damaged ↦ inr (damaged ∙ ap Some started_reads)
-          ];
-        };
-      }
+      → (after.damaged ≡ None) ⊎ (after.damaged ≡ Some (damaged_place (oldest_stores started.stores s.hashes) started)) → Merges Moved s (record s { merging = Some after })
+  begin_merges after same step found = search (arith, begins_turn, started_stores, started_reads)
 
 -- the next step of a merge in progress
 pub next_merges : (s : EngineState) (before after : MergeState) → s.merging ≡ Some before → merge_turn s ≡ Moved → IsSameMerge before after → steps_of after ≡ steps_of before + 1
     → (after.damaged ≡ None) ⊎ (after.damaged ≡ Some (damaged_place (oldest_stores before.stores s.hashes) before)) → Merges Moved s (record s { merging = Some after })
-next_merges s before after was turn same step found = record {
-  due = sym turn;
-  done = record {
-    merge = after;
-    is = refl;
-    step = rw was (same, step);
-    found = elim found [
-      | inl nothing ↦ inl nothing
-      | inr damaged ↦ inr (damaged ∙ ap Some (ap (place_read s.hashes) (sym was)))
-    ];
-  };
-}
+next_merges s before after was turn same step found = search arith
 
 -- if no merge is in progress, any step may be out of memory
 pub first_lacks : (content : Content) (s : EngineState) → s.merging ≡ None → MayLackMemory content s

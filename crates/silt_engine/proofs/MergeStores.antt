@@ -31,13 +31,7 @@ module _ (s : Stores) (body : Body) (newer taken : List Part) (entries : List St
   -- those that are merged come first
   pub rows_old : rows_of s ≡ rows ++ rest
   unfolding rows_of
-  rows_old =
-      cc (
-        map-append known_rows newer taken,
-        older_first (map known_rows newer) (map known_rows taken),
-        append_assoc s.entries (oldest_first (map known_rows taken)) (oldest_first (map known_rows newer)),
-        append_assoc rows (oldest_first (map known_rows newer)) (oldest_first (map part_rows s.logs)),
-      )
+  rows_old = search (arith, map-append, older_first, append_assoc)
 
   -- and then the entries do
   rows_new : rows_of new ≡ entries ++ rest
@@ -78,9 +72,8 @@ pub taken_named : (shape : Shape) (image ids : List ℕ) (stores : List HashStat
 taken_named shape image ids stores count are = search (arith, length-map, drop-map)
 
 -- what a merge takes of the stores that a body names is what it takes of the stores in memory
-pub sources_named : (shape : Shape) (body : Body) (stores : List HashState) (sorted : SortedState) (count : ℕ) (image : List ℕ)
-    → sorted ≡ sorted_named shape body → map hash_region_of stores ≡ body.hashed
-    → merge_sources count (stores_named shape body image) ≡ sources image (oldest_stores count stores) sorted
+pub sources_named : (shape : Shape) (body : Body) (stores : List HashState) (sorted : SortedState) (count : ℕ) (image : List ℕ) → sorted ≡ sorted_named shape body
+    → map hash_region_of stores ≡ body.hashed → merge_sources count (stores_named shape body image) ≡ sources image (oldest_stores count stores) sorted
 unfolding stores_named sources
 sources_named shape body stores sorted count image is are = cc (taken_named shape image body.hashed stores count are)
 
@@ -117,9 +110,8 @@ unfolding with_log_rows
 with_entries region more t = refl
 
 -- if the merge may replace what it took, it may do so with other rows of a log
-pub sound_with : (body : Body) (newer taken : List Part) (entries rows : List StoredRow) (region : ℕ) (t : Stores) → t.hashes ≡ newer
-    ++ taken → IsMergeOf (taken_rows taken t) entries → IsSound (with_log_rows region rows t)
-    → IsSound (with_log_rows region rows (with_merged body newer entries t))
+pub sound_with : (body : Body) (newer taken : List Part) (entries rows : List StoredRow) (region : ℕ) (t : Stores) → t.hashes ≡ newer ++ taken → IsMergeOf (taken_rows taken t) entries
+    → IsSound (with_log_rows region rows t) → IsSound (with_log_rows region rows (with_merged body newer entries t))
 unfolding with_log_rows with_merged
 sound_with body newer taken entries rows region t split is sound = (merges (with_log_rows region rows t) body newer taken entries split sound is).sound
 

@@ -1,5 +1,5 @@
 -- The end of a merge: the record that names its sorted store, and the stores once it is current.
-use Rattle.silt_engine.proofs.Common.{inr, ◌≡◌, ℕ, ◌-◌, IsTrue, List, [], ◌++◌, length, map, take, Option, Some, None, refl, ap, sym, ◌∙◌, subst, arith, IfSome, take-map, All-take, Content}
+use Rattle.silt_engine.proofs.Common.{inr, ◌≡◌, ℕ, ◌-◌, IsTrue, List, [], ◌++◌, length, map, take, Option, Some, refl, ap, sym, ◌∙◌, subst, arith, IfSome, take-map, All-take, Content}
 use Rattle.silt_engine.proofs.Common.{LeavesOnly, Rests, size, Shape, device_size, slot_at, left_at_rest, StoredRow, put_count, all_rows, KeepsRows, ManifestState, spare_slot, Body, Digests}
 use Rattle.silt_engine.proofs.Common.{Stores, stores_named, AreDigestsOf, IsSound, entries_digest, rows_of, with_log_rows, command_of, ConversionState, IsHashStore, merged_rows}
 use Rattle.silt_engine.proofs.Common.{IndexedState, SortedState, entries_of, sorted_rows, digest_elsewhere, indexed_elsewhere, AreWhole, IsHashOf, IsMerging, IsUnderWay, EngineState}
@@ -19,14 +19,7 @@ use Rattle.silt_engine.proofs.MergeDone.{all_compared, entries_are, full_is, mer
 -- a conversion is in progress in stores with fewer hash stores
 under_way_fewer : (s t : EngineState) (count : ℕ) (o : Option ConversionState) → t.manifest.shape ≡ s.manifest.shape
     → t.manifest.current.hashed ≡ take count s.manifest.current.hashed → t.frozen ≡ s.frozen → IfSome o (IsUnderWay s) → IfSome o (IsUnderWay t)
-under_way_fewer s t count None same_shape fewer same_frozen is = tt
-under_way_fewer s t count (Some conversion) same_shape fewer same_frozen is = record {
-  has_shape = is.has_shape ∙ sym same_shape;
-  some_frozen = omega (arith, is.some_frozen, ap length same_frozen);
-  there = rw (← same_shape) at is.there;
-  free = cc (none_of_first s.manifest.current.hashed count conversion.region is.free);
-  most = rw (← same_shape) at is.most;
-}
+under_way_fewer s t count o same_shape fewer same_frozen is = search (arith, none_of_first)
 
 -- ---- the body that names the new sorted store
 
@@ -41,15 +34,13 @@ module _ (old : Content) (s : EngineState) (body : Body) (digests : Digests) (st
   -- it names them in each possible crash image, since nothing is pending
   names : LeavesOnly old (λ image. stores_named s.manifest.shape body image ≡ now_stores)
   names = record {
-    each = λ h image left.
-        cc (left_at_rest rests h image left, ends.is, merged_named s.manifest.shape s.manifest.current ends.merge.stores ends.merge.region ends.merge.written old.shown);
+    each = λ h image left. cc (left_at_rest rests h image left, ends.is, merged_named s.manifest.shape s.manifest.current ends.merge.stores ends.merge.region ends.merge.written old.shown);
   }
 
   -- the digests are theirs
   said : IsTrue old.honest → AreDigestsOf (Some digests) now_stores
   said h =
-      subst (λ (d : Digests). AreDigestsOf (Some d) now_stores) (sym ends.digests_are) (merged_said old s stands h body ends.merge.stores _ store
-      (ends.digested old stands h
+      subst (λ (d : Digests). AreDigestsOf (Some d) now_stores) (sym ends.digests_are) (merged_said old s stands h body ends.merge.stores _ store (ends.digested old stands h
       ∙ ap (λ (t : SortedState). entries_digest (entries_of old t)) ends.entries
       ∙ ap (λ (sh : Shape). entries_digest (sorted_rows sh ends.merge.region ends.merge.written old.shown)) under_way.has_shape))
 
@@ -86,8 +77,7 @@ module _ (old : Content) (s : EngineState) (body : Body) (digests : Digests) (st
       active_region = cc (stands.whole.active_region, current_is);
       frozen_regions = cc (stands.whole.frozen_regions, current_is);
       settled = rw (← now.has_shape) at stands.whole.settled;
-      hash_regions =
-          cc (take-map hash_region_of (length s.hashes - ends.merge.stores) s.hashes, stands.whole.hash_regions, hash_count s stands.whole, current_is);
+      hash_regions = cc (take-map hash_region_of (length s.hashes - ends.merge.stores) s.hashes, stands.whole.hash_regions, hash_count s stands.whole, current_is);
       hashed = rw (← now.has_shape) at (All-take (IsHashOf s.manifest.shape) (length s.hashes - ends.merge.stores) s.hashes stands.whole.hashed);
       sorted = cc (ends.entries, under_way.has_shape, now.has_shape, current_is);
       held = subst IsHeldSorted (sym ends.entries) (record { region = under_way.held.there; room = under_way.held.room });
@@ -133,12 +123,10 @@ module _ (old : Content) (s : EngineState) (body : Body) (digests : Digests) (st
       same_shape = merged_may_become_current.has_shape ∙ sym now.has_shape;
       same_body = merged_may_become_current.has_body ∙ sym now.has_body;
       named = now_named old new s body digests stands merged_may_become_current sizes m now;
-      sound = λ h. subst (λ (n : ℕ). IsSound (with_log_rows n (all_rows new s.active.log) now_stores)) (ap (λ (b : Body). b.active) (sym current_is)) (subst (λ
-          (rows : List StoredRow). IsSound (with_log_rows s.manifest.current.active rows now_stores)) (sym (keeps.all (back h))) (merged_full_sound old s ends.merge
-          stands ends.was ends.done body (back h)));
+      sound = λ h. subst (λ (n : ℕ). IsSound (with_log_rows n (all_rows new s.active.log) now_stores)) (ap (λ (b : Body). b.active) (sym current_is)) (subst (λ (rows : List StoredRow).
+          IsSound (with_log_rows s.manifest.current.active rows now_stores)) (sym (keeps.all (back h))) (merged_full_sound old s ends.merge stands ends.was ends.done body (back h)));
       said = λ h. rw (← now.has_digests) at (merged_may_become_current.said (back h));
-      counted = λ h.
-          merged_counted old s ends.merge stands ends.was ends.done body (back h) (s.charge - ((s.charge - charge_without s ends.merge.stores) - store.sorted.count))
+      counted = λ h. merged_counted old s ends.merge stands ends.was ends.done body (back h) (s.charge - ((s.charge - charge_without s ends.merge.stores) - store.sorted.count))
           (ap (λ (t : SortedState). s.charge - ((s.charge - charge_without s ends.merge.stores) - t.count)) ends.entries)
           ∙ ap (λ (rows : List StoredRow). put_count (rows_of now_stores ++ rows)) (sym (waiting_stays old new s stands sizes now.changes (back h)));
     }
@@ -153,18 +141,7 @@ module _ (old : Content) (s : EngineState) (body : Body) (digests : Digests) (st
 
     -- the merge is ended
     pub ends_merged : (finished : EngineState) → finished ≡ sorted_replaced s m ends.merge.stores store → EndsMerged s finished
-    ends_merged finished is = rw is
-        (record {
-          merge = ends.merge;
-          was = ends.was;
-          none = refl;
-          shape = now.has_shape;
-          current = current_is;
-          active = refl;
-          frozen = refl;
-          converting = refl;
-          compared = all_compared old s ends.merge stands ends.was ends.done ends.sound;
-        })
+    ends_merged finished is = search (arith, current_is, all_compared)
 
     -- its entries are the newest rows that are puts, of what it took on a disk that shows the same stores
     entries_now : IsTrue old.honest → (spec.full_stores new after).entries ≡ merged_rows (merge_sources ends.merge.stores (shown_stores old s))

@@ -118,10 +118,8 @@ module _ (old new : Content) (s : EngineState) (body : Body) (digests : Digests)
     manifest_map h = elim may.waiting [
       | inl quiet ↦ quiet_remap old new s _ slot_below stands sizes changes quiet s quiet.settled h (shown_base h)
       | inr same ↦ elim (old_or_new.each (there h) new.shown (shown_left new)) [
-        | inl stays ↦ waiting_remap old new s _ slot_below stands sizes changes s _ refl
-            (named_shape _ _ _) (active_is old s stands) h stays.0 (sym (base_is old s))
-        | inr turns ↦ waiting_remap old new s _ slot_below stands sizes changes s _ refl
-            may.has_shape (ap (λ (b : Body). b.active) may.has_body ∙ same) h turns.0 (may.same_map h)
+        | inl stays ↦ waiting_remap old new s _ slot_below stands sizes changes s _ refl (named_shape _ _ _) (active_is old s stands) h stays.0 (sym (base_is old s))
+        | inr turns ↦ waiting_remap old new s _ slot_below stands sizes changes s _ refl may.has_shape (ap (λ (b : Body). b.active) may.has_body ∙ same) h turns.0 (may.same_map h)
       ]
     ]
 
@@ -134,8 +132,7 @@ module _ (old new : Content) (s : EngineState) (body : Body) (digests : Digests)
   now_named = record {
     each = λ h image left.
         let from = now.changes.left (subst IsTrue now.changes.honest h) image left in
-        next_named old new s body _ stands may sizes now.changes h from.0 image from.1 from.2
-        (cc (now.has_shape, (now.current.each h image left).current, now.has_body, now.has_digests));
+        next_named old new s body _ stands may sizes now.changes h from.0 image from.1 from.2 (cc (now.has_shape, (now.current.each h image left).current, now.has_body, now.has_digests));
   }
 
   -- stores that fit the disk with them, and with the same waiting rows, stand
@@ -147,7 +144,6 @@ module _ (old new : Content) (s : EngineState) (body : Body) (digests : Digests)
     moves = λ h. record {
       moved = [];
       rest = waiting h ∙ sym (append-nil (waiting_commands old s));
-      base =
-          cc (base_is new after, shown_are new after may.stores fits.same_shape fits.same_body fits.named (subst IsTrue (sym now.changes.honest) h), may.same_map h);
+      base = cc (base_is new after, shown_are new after may.stores fits.same_shape fits.same_body fits.named (subst IsTrue (sym now.changes.honest) h), may.same_map h);
     };
   }

@@ -43,16 +43,14 @@ stores_said : (content : Content) (shape : Shape) (stores : List HashState) → 
     → map part_digest (map (hash_part shape content.shown) (map hash_region_of stores)) ≡ map bytes_of (map digest_of stores)
 stores_said content shape [] honest shapes stand = refl
 stores_said content shape (store ∷ stores) honest shapes stand =
-    let first : part_digest (hash_part shape content.shown store.region) ≡ store.digest =
-    cc (shapes 0 store (omega arith), (stand 0 store (omega arith)).digested honest) in
+    let first : part_digest (hash_part shape content.shown store.region) ≡ store.digest = cc (shapes 0 store (omega arith), (stand 0 store (omega arith)).digested honest) in
     let rest = stores_said _ shape stores honest (λ k blank below. shapes (suc k) blank (omega arith)) (λ k blank below. stand (suc k) blank (omega arith)) in
     cc
 
 module _ (content : Content) (s : EngineState) (stands : Stands content s) (honest : IsTrue content.honest) where
   pub hashes_said : map part_digest (shown_stores content s).hashes ≡ map bytes_of (map digest_of s.hashes)
   unfolding stores_named
-  hashes_said =
-      cc (stands.whole.hash_regions, stores_said content s.manifest.shape s.hashes honest (λ k d inside. (stands.whole.hashed k d inside).has_shape) stands.hashed)
+  hashes_said = cc (stands.whole.hash_regions, stores_said content s.manifest.shape s.hashes honest (λ k d inside. (stands.whole.hashed k d inside).has_shape) stands.hashed)
 
   entries_said : s.digest ≡ entries_digest (shown_stores content s).entries
   unfolding stores_named
@@ -60,9 +58,7 @@ module _ (content : Content) (s : EngineState) (stands : Stands content s) (hone
 
   -- there are as many
   pub shown_count : length (shown_stores content s).hashes ≡ length s.hashes
-  shown_count =
-      sym (length-map (shown_stores content s).hashes part_digest) ∙ ap length hashes_said
-      ∙ length-map (map digest_of s.hashes) bytes_of ∙ length-map s.hashes digest_of
+  shown_count = sym (length-map (shown_stores content s).hashes part_digest) ∙ ap length hashes_said ∙ length-map (map digest_of s.hashes) bytes_of ∙ length-map s.hashes digest_of
 
   own_said : AreDigestsOf (Some (own_digests s)) (shown_stores content s)
   own_said = are_said _ _ _ hashes_said entries_said
@@ -107,9 +103,8 @@ in_front None is newer counted same = counted ∙ ap from_bool same
 in_front (Some digest) is newer counted same = counted ∙ ap from_bool same
 
 -- the digest of one store more
-pub one_more : (front : List Digest) (stores : List HashState) (index newer : ℕ) (store : HashState) (digest : Digest) (hashed : List Digest)
-    → length front + length stores ≤ 16 → newer ≡ length front → index < length stores
-    → store ≡ get_or stores index store → digest.0 ≡ store.digest → hashed ≡ padded (front ++ map digest_of (take index stores))
+pub one_more : (front : List Digest) (stores : List HashState) (index newer : ℕ) (store : HashState) (digest : Digest) (hashed : List Digest) → length front + length stores ≤ 16
+    → newer ≡ length front → index < length stores → store ≡ get_or stores index store → digest.0 ≡ store.digest → hashed ≡ padded (front ++ map digest_of (take index stores))
     → slice_set hashed (newer + index) digest ≡ padded (front ++ map digest_of (take (index + 1) stores))
 one_more front stores index newer store digest hashed room counted inside here its was =
     let before : List Digest = map digest_of (take index stores) in

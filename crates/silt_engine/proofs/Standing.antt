@@ -78,11 +78,7 @@ module _ (old new : Content) (s : EngineState) (stands : Stands old s) (sizes : 
 
   -- all else lies apart
   apart : IsTrue old.honest → IsApart s.manifest.shape s.manifest.current (commits_at s.manifest.shape s.manifest.current.active) (log_size s.manifest.shape)
-  apart h = record {
-    frozen = λ region there. outside_other s.manifest.shape region s.manifest.current.active (not_active old s stands h region there);
-    hashed = λ region there. slots_behind_log s.manifest.shape s.manifest.current.active region (active_below old s stands);
-    sorted = entries_behind_log s.manifest.shape s.manifest.current.active s.manifest.current.sorted (active_below old s stands);
-  }
+  apart h = search (arith, outside_other, not_active, slots_behind_log, active_below, entries_behind_log)
 
   -- the frozen logs, the hash stores and the entries match the disk as before
   pub frozen_stay : All (IsFrozen new) s.frozen
@@ -99,12 +95,10 @@ module _ (old new : Content) (s : EngineState) (stands : Stands old s) (sizes : 
 
   -- a conversion has written what it had, and a merge has gathered and written what it had
   pub written_stays : IfSome s.converting (HasWritten new (oldest_log s))
-  written_stays = written_all_elsewhere old new s _ _ stands changes_active apart _
-      (λ h. region_before_conversion s _ (active_below old s stands)) stands.whole.under_way stands.written
+  written_stays = written_all_elsewhere old new s _ _ stands changes_active apart _ (λ h. region_before_conversion s _ (active_below old s stands)) stands.whole.under_way stands.written
 
   pub merged_stays : IfSome s.merging (HasGathered new s)
-  merged_stays = merged_all_elsewhere old new s _ _ stands changes_active apart _
-      (λ h. region_before_merge s _ (active_below old s stands)) stands.whole.merging stands.merged
+  merged_stays = merged_all_elsewhere old new s _ _ stands changes_active apart _ (λ h. region_before_merge s _ (active_below old s stands)) stands.whole.merging stands.merged
 
   -- with these rows of the log in each image, each has the stores with them
   pub named_with : (rows : List StoredRow) → LeavesOnly new (λ image. log_rows s.active.log.shape s.active.log.region image ≡ rows)

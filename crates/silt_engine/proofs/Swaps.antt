@@ -30,9 +30,8 @@ last_off xs rest x d o both some =
 -- ---- the oldest log and the hash store
 
 -- the body then names one hash store more
-pub named_more : (s : EngineState) (m : ManifestState) (may : MayReplace s m) (ended : ConversionState) (taken : Option ConversionState)
-    → taken ≡ s.converting → taken ≡ Some ended → (made : HashState) (digest : List ℕ) → made ≡ store_of ended digest → IsHeldHash made
-    → length m.current.hashed ≡ length s.hashes + 1
+pub named_more : (s : EngineState) (m : ManifestState) (may : MayReplace s m) (ended : ConversionState) (taken : Option ConversionState) → taken ≡ s.converting → taken ≡ Some ended
+    → (made : HashState) (digest : List ℕ) → made ≡ store_of ended digest → IsHeldHash made → length m.current.hashed ≡ length s.hashes + 1
 named_more s m may ended taken taken_is taken_some made digest made_is held =
     let same : ended ≡ may.conversion = same_conversion ended _ _ (sym taken_is ∙ taken_some) may.was in
     let is_store : made ≡ store_of may.conversion digest = made_is ∙ ap (λ (v : ConversionState). store_of v digest) same in
@@ -85,9 +84,8 @@ pub from_on : (place : ℕ) (stores : List HashState) → take (length stores - 
 from_on place stores = take_all (length stores - place) (drop place stores) (omega (arith, length-drop place stores))
 
 -- the store that a merge has become is the one that may stand for it
-pub store_is : (s : EngineState) (m : ManifestState) (store made : IndexedState) (may : MayStandFor s m store) (merge : MergeState)
-    (taken : Option MergeState) (digest : List ℕ) → taken ≡ s.merging → taken ≡ Some merge → store.digest ≡ digest
-    → made.sorted ≡ sorted_in merge → merge.index.sealed ≡ Some made.index → made.digest ≡ digest → store ≡ made
+pub store_is : (s : EngineState) (m : ManifestState) (store made : IndexedState) (may : MayStandFor s m store) (merge : MergeState) (taken : Option MergeState) (digest : List ℕ)
+    → taken ≡ s.merging → taken ≡ Some merge → store.digest ≡ digest → made.sorted ≡ sorted_in merge → merge.index.sealed ≡ Some made.index → made.digest ≡ digest → store ≡ made
 store_is s m store made may merge taken digest taken_is taken_some has_digest sorted index made_digest = search (arith, same_merge, same_Some)
 
 module _ (s : EngineState) (m : ManifestState) (store : IndexedState) (may : MayStandFor s m store) (ended : MergeState)

@@ -40,9 +40,7 @@ module _ (old new : Content) (s : EngineState) (slot : ℕ) (below : slot < 2) (
   -- if the old record is current, the stores are the old ones
   pub same_named : (h : IsTrue new.honest) (before image : List ℕ) → image_stores before ≡ Ok (shown_stores old s) → Torn (slot_at slot) 4096 before image
       → RecordIsCurrent s.manifest image → image_stores image ≡ Ok (shown_stores old s)
-  same_named h before image named torn is_current =
-      current_named h before image _ named torn is_current
-      ∙ ap Ok (named_here _ _ _ before named (named_shape _ _ _) (named_body _ _ _))
+  same_named h before image named torn is_current = current_named h before image _ named torn is_current ∙ ap Ok (named_here _ _ _ before named (named_shape _ _ _) (named_body _ _ _))
 
   -- the map of the full image, if nothing waited and nothing waits
   pub quiet_remap : IsQuiet old s → (after : EngineState) → after.active.log.settled ≡ after.active.log.used → IsTrue old.honest
@@ -85,8 +83,7 @@ module _ (old new : Content) (s : EngineState) (stands : Stands old s) (sizes : 
 
   -- and what a conversion and a merge have written
   pub written_stays : IfSome s.converting (HasWritten new (oldest_log s))
-  written_stays = written_all_elsewhere old new s _ _ stands changes (λ h. apart) _
-      (λ h. slot_before_conversion s _ slot_below) stands.whole.under_way stands.written
+  written_stays = written_all_elsewhere old new s _ _ stands changes (λ h. apart) _ (λ h. slot_before_conversion s _ slot_below) stands.whole.under_way stands.written
 
   pub merged_stays : IfSome s.merging (HasGathered new s)
   merged_stays = merged_all_elsewhere old new s _ _ stands changes (λ h. apart) _ (λ h. slot_before_merge s _ slot_below) stands.whole.merging stands.merged

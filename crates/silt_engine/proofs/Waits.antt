@@ -1,9 +1,9 @@
 -- Whether the row that a lookup found waits for a flush.
-use Rattle.silt_engine.proofs.Common.{◌≡◌, ◌≢◌, ◌<◌, ◌≤◌, ◌+◌, ◌-◌, ◌||◌, ℕ, Bool, true, false, if◌then◌else◌, nat_le, IsTrue, List, [], ◌∷◌, ◌++◌, length, map, get_or, Option, Some, None}
-use Rattle.silt_engine.proofs.Common.{inl, inr, refl, ap, sym, ◌∙◌, subst, arith, list_any, bytes_eq, get, get-insert, get-remove, cases_lt, le-leb, nat_list_cmp_total, get_or-map}
-use Rattle.silt_engine.proofs.Common.{list_any_at, get_or_from_slice_get, slice_get_within, bytes_eq-Decides, Command, Map, changed, delete, map_after, put, command_of, StoredRow, keys_of}
-use Rattle.silt_engine.proofs.Common.{FindsLast, HasNoRow, IsLastRow, Found, all_rows, settled_rows, waiting_rows, all_are_settled_and_waiting, all_count, IsIndexed, Content, EngineState}
-use Rattle.silt_engine.proofs.Common.{Stands, waiting_commands, Active, lt-leb, get_or-append-add, get_or-append_right, list_any_none, same_key, changes_key, is_of_key, is_waiting_row}
+use Rattle.silt_engine.proofs.Common.{◌≡◌, ◌≢◌, ◌<◌, ◌≤◌, ◌+◌, ◌-◌, ◌||◌, ℕ, Bool, true, false, nat_le, IsTrue, List, [], ◌∷◌, ◌++◌, length, map, get_or, Option, Some, None, inl, inr, refl}
+use Rattle.silt_engine.proofs.Common.{ap, sym, ◌∙◌, subst, arith, list_any, bytes_eq, get, get-insert, get-remove, cases_lt, le-leb, nat_list_cmp_total, get_or-map, list_any_at}
+use Rattle.silt_engine.proofs.Common.{get_or_from_slice_get, slice_get_within, bytes_eq-Decides, Command, Map, changed, delete, map_after, put, command_of, StoredRow, keys_of, FindsLast}
+use Rattle.silt_engine.proofs.Common.{HasNoRow, IsLastRow, Found, all_rows, settled_rows, waiting_rows, all_are_settled_and_waiting, all_count, IsIndexed, Content, EngineState, Stands}
+use Rattle.silt_engine.proofs.Common.{waiting_commands, Active, lt-leb, get_or-append-add, get_or-append_right, list_any_none, same_key, changes_key, is_of_key, is_waiting_row}
 use Rattle.std.proofs.Common.{length-append}
 use Rattle.silt_engine.proofs.Lookups.{other_key}
 
@@ -28,11 +28,7 @@ others_stay m (command ∷ commands) key none =
 -- ---- rows and their commands
 
 of_row : (key : List ℕ) (row : StoredRow) → is_of_key key (command_of row) ≡ bytes_eq row.key key
-of_row key row = go _
-  where
-    go : (b : Bool) → is_of_key key (if b then put row.key row.value else delete row.key) ≡ bytes_eq row.key key
-    go true = refl
-    go false = refl
+of_row key row = search arith
 
 of_rows : (key : List ℕ) (rows : List StoredRow) → changes_key (map command_of rows) key ≡ list_any (λ (row : StoredRow). bytes_eq row.key key) rows
 of_rows key [] = refl

@@ -46,8 +46,7 @@ module _ (content : Content) (s : EngineState) (items : List LogStoreState) (num
 
   -- the value of a row that it has
   pub frozen_value : (o : Option Found) (found : Found) (out : List ℕ) → o ≡ Some found
-      → IfSome (put_place o) (λ place. out ≡ (row_at store.log.shape store.log.region content.shown place).value)
-      → IsItsValue content s (Frozen number) found out
+      → IfSome (put_place o) (λ place. out ≡ (row_at store.log.shape store.log.region content.shown place).value) → IsItsValue content s (Frozen number) found out
   frozen_value o found out some has = search (arith, its_value, log_here)
 
 -- ---- a hash store, by its number
@@ -74,10 +73,8 @@ module _ (content : Content) (s : EngineState) (items : List HashState) (number 
     hash_here found some = (before, rw some at hash_finds)
 
     -- it has none, and is passed
-    pub hash_passed : ((found : Found) → o ≡ Some found → ⊥) → (index : ℕ) → index < number + 1
-        → holds_key key (hash_rows_of content (hash_store_at s index)) ≡ false
-    hash_passed not_some = one_more (λ index. holds_key key (hash_rows_of content (hash_store_at s index)) ≡ false) number before
-        (rw (none_of o not_some) at hash_finds)
+    pub hash_passed : ((found : Found) → o ≡ Some found → ⊥) → (index : ℕ) → index < number + 1 → holds_key key (hash_rows_of content (hash_store_at s index)) ≡ false
+    hash_passed not_some = one_more (λ index. holds_key key (hash_rows_of content (hash_store_at s index)) ≡ false) number before (rw (none_of o not_some) at hash_finds)
 
   -- the value of a row that it has
   pub hashed_value : (o : Option Found) (found : Found) (out : List ℕ) → o ≡ Some found
@@ -148,15 +145,13 @@ delete_gives content s key holder Put place finds deletes = absurd (cc)
 delete_gives content s key holder Delete place finds deletes = finds
 
 -- the row that was found is a put, and this is the value
-pub found_put : (content : Content) (s : EngineState) (key : List ℕ) (walked : Option (Holder × Found)) (holder : Holder) (found : Found) (out : List ℕ)
-    → FindsNewest content s key walked → walked ≡ Some (holder, found)
-    → IfSome walked (λ row. IsItsValue content s row.0 row.1 out) → is_put found.kind ≡ true → get (current_map content s) key ≡ Some out
+pub found_put : (content : Content) (s : EngineState) (key : List ℕ) (walked : Option (Holder × Found)) (holder : Holder) (found : Found) (out : List ℕ) → FindsNewest content s key walked
+    → walked ≡ Some (holder, found) → IfSome walked (λ row. IsItsValue content s row.0 row.1 out) → is_put found.kind ≡ true → get (current_map content s) key ≡ Some out
 found_put content s key walked holder found out finds some has puts = put_gives _ s key holder _ _ out (rw some at finds) (rw some at has) puts
 
 -- it is a delete
-pub found_delete : (content : Content) (s : EngineState) (key : List ℕ) (walked : Option (Holder × Found)) (holder : Holder) (found : Found)
-    → FindsNewest content s key walked → walked ≡ Some (holder, found)
-    → is_put found.kind ≡ false → get (current_map content s) key ≡ None
+pub found_delete : (content : Content) (s : EngineState) (key : List ℕ) (walked : Option (Holder × Found)) (holder : Holder) (found : Found) → FindsNewest content s key walked
+    → walked ≡ Some (holder, found) → is_put found.kind ≡ false → get (current_map content s) key ≡ None
 found_delete content s key walked holder found finds some deletes = delete_gives _ s key holder _ _ (rw some at finds) deletes
 
 -- ---- the answer of a lookup

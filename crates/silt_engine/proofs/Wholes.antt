@@ -1,6 +1,6 @@
 -- Stores in memory that stay whole, and the oldest log, which a conversion reads.
-use Rattle.silt_engine.proofs.Common.{◌≡◌, ◌≤◌, ◌<◌, ◌-◌, ℕ, List, ◌∷◌, length, get_or, Option, Some, None, sym, ◌∙◌, arith, IfSome, get_or_default, Content, ConversionState, HasWritten}
-use Rattle.silt_engine.proofs.Common.{MergeState, LogStoreState, ManifestState, AreWhole, IsMerging, IsUnderWay, EngineState, oldest_log}
+use Rattle.silt_engine.proofs.Common.{◌≡◌, ◌≤◌, ◌<◌, ◌-◌, ℕ, List, ◌∷◌, length, get_or, Option, Some, None, arith, IfSome, get_or_default, Content, ConversionState, HasWritten, MergeState}
+use Rattle.silt_engine.proofs.Common.{LogStoreState, ManifestState, AreWhole, IsMerging, IsUnderWay, EngineState, oldest_log}
 
 -- ---- the oldest log
 
@@ -17,14 +17,7 @@ oldest_behind newer logs d e some = search (arith, oldest_any)
 -- it is in progress in stores with the same shape and hash stores, and with no fewer frozen logs
 pub under_way_in : (s t : EngineState) (o : Option ConversionState) → t.manifest.shape ≡ s.manifest.shape → t.manifest.current.hashed ≡ s.manifest.current.hashed → length s.frozen ≤ length t.frozen
     → IfSome o (IsUnderWay s) → IfSome o (IsUnderWay t)
-under_way_in s t None same_shape same_hashed more is = tt
-under_way_in s t (Some conversion) same_shape same_hashed more is = record {
-  has_shape = is.has_shape ∙ sym same_shape;
-  some_frozen = omega (arith, is.some_frozen, more);
-  there = rw (← same_shape) at is.there;
-  free = cc (is.free);
-  most = rw (← same_shape) at is.most;
-}
+under_way_in s t o same_shape same_hashed more is = search arith
 
 -- what it has written is of the oldest log
 pub written_in : (content : Content) (s : EngineState) (log : LogStoreState) (o : Option ConversionState) → (0 < length s.frozen → log ≡ oldest_log s) → IfSome o (IsUnderWay s)
@@ -37,21 +30,13 @@ written_in content s log (Some conversion) same is written = rw (← (same is.so
 -- it is in progress in stores with the same shape and sorted region, and with no fewer hash stores
 pub merging_in : (s t : EngineState) (o : Option MergeState) → t.manifest.shape ≡ s.manifest.shape → t.sorted.region ≡ s.sorted.region
     → length s.hashes ≤ length t.hashes → IfSome o (IsMerging s) → IfSome o (IsMerging t)
-merging_in s t None same_shape same_region more is = tt
-merging_in s t (Some merge) same_shape same_region more is = record {
-  has_shape = is.has_shape ∙ sym same_shape;
-  apart = λ e. is.apart (sym same_region ∙ e);
-  some = is.some;
-  most = omega (arith, is.most, more);
-  held = is.held;
-}
+merging_in s t o same_shape same_region more is = search arith
 
 -- ---- whole stores
 
 -- with another active log of the same region
-pub whole_with_active : (s : EngineState) (after : LogStoreState) (charge : ℕ) → AreWhole s → after.log.shape ≡ s.active.log.shape
-    → after.log.region ≡ s.active.log.region → charge ≤ s.manifest.shape.sorted_capacity
-    → AreWhole (record s { active = after; charge = charge })
+pub whole_with_active : (s : EngineState) (after : LogStoreState) (charge : ℕ) → AreWhole s → after.log.shape ≡ s.active.log.shape → after.log.region ≡ s.active.log.region
+    → charge ≤ s.manifest.shape.sorted_capacity → AreWhole (record s { active = after; charge = charge })
 whole_with_active s after charge whole same_shape same_region most = search (arith, under_way_in, merging_in)
 
 -- what a conversion has written is of the same log

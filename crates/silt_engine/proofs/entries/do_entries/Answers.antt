@@ -15,8 +15,7 @@ pub returns-clause-ok : goal.returns-clause-ok
 returns-clause-ok g c = λ honest.
     let content = g.D.Disk.content c.args.disk.now in
     let store = c.args.store.now in
-    does_whole (entries_of content store) c.loop-place.place c.args.entries.now c.loop-place.entries
-    (omega (
+    does_whole (entries_of content store) c.loop-place.place c.args.entries.now c.loop-place.entries (omega (
       arith,
       (entries_law store.shape store.region store.count content.shown).counted,
       c.loop-place-test.false,

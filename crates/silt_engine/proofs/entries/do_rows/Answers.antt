@@ -8,9 +8,8 @@ loop-place-preserved g c = λ honest.
     let log = c.args.store.now.log in
     let row = row_of c.read_row.new.out in
     does_next (all_rows content log) c.loop-place.place row c.args.entries.now c.loop-place.entries c.do_row.new.entries
-    (omega (arith, all_count content log, c.loop-place-test.true, c.len-place-end.ensures.value))
-    (row_of_all content log c.loop-place.place row (omega (arith, c.loop-place-test.true, c.len-place-end.ensures.value)) ∙ sym (c.in_default.ensures.row honest))
-    (c.loop-place.invariant honest) c.in-Ok.ensures
+    (omega (arith, all_count content log, c.loop-place-test.true, c.len-place-end.ensures.value)) (row_of_all content log c.loop-place.place row
+    (omega (arith, c.loop-place-test.true, c.len-place-end.ensures.value)) ∙ sym (c.in_default.ensures.row honest)) (c.loop-place.invariant honest) c.in-Ok.ensures
 
 pub returns-clause-ok : goal.returns-clause-ok
 returns-clause-ok g c = λ honest.

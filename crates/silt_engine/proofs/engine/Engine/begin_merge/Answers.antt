@@ -51,23 +51,17 @@ returns-in_err-step-clause-err g c =
     let way = started_way _ _ started in
     let step = steps_in (state_of c.self.inside) _ _ _ c.deref-2.ensures.value c.entries-sorted.ensures c.digest.ensures c.in_err-step.ensures in
     let remaps = failed_map _ _ _ _ _ _ _ (stands g at) way step (state_of c.self.inside).merging in
-    rw (← c.self.view_is) (on_error c.from_residual.result (refusal_of_step c.in_err-step.field-0.0) _ c.from_residual.ensures.1
-    (step_cause _ _ _ _ _ _ _ (stands g at) way step (state_of c.self.inside) (begins_turn _ _ started) (gathered g at) (λ same. refl)
-    (λ takes. first_lacks (g.D.Disk.content c.args.disk.now) (state_of c.self.inside) started.none)
-    (λ place found. let no : None ≡ Some place = sym (started_sound _ _ started) ∙ found in absurd (cc)) remaps c.in_err-step.field-0.0 step.fails))
+    rw (← c.self.view_is) (on_error c.from_residual.result (refusal_of_step c.in_err-step.field-0.0) _ c.from_residual.ensures.1 (step_cause _ _ _ _ _ _ _ (stands g at) way step (state_of
+    c.self.inside) (begins_turn _ _ started) (gathered g at) (λ same. refl) (λ takes. first_lacks (g.D.Disk.content c.args.disk.now) (state_of c.self.inside) started.none) (λ place found.
+    let no : None ≡ Some place = sym (started_sound _ _ started) ∙ found in absurd (cc)) remaps c.in_err-step.field-0.0 step.fails))
 
 pub invariant_of-self : goal.invariant_of-self
 invariant_of-self g c =
     let at = (goal.at.invariant_of-self g c).In-Ok in
-    let stores : EngineState = state_of c.self.inside in
-    let step = steps_in stores _ _ _ c.deref-2.ensures.value c.entries-sorted.ensures c.digest.ensures c.step.ensures in
-    let way = way_after _ _ _ _ _ _ _ (stands g at) (started_way _ _ (begins g at)) step in
+    let step = steps_in (state_of c.self.inside) _ _ _ c.deref-2.ensures.value c.entries-sorted.ensures c.digest.ensures c.step.ensures in
+    let after = way_after _ _ _ _ _ _ _ (stands g at) (started_way _ _ (begins g at)) step in
     let whole = c.self.invariant.whole in
-    record {
-      whole = whole_with stores _ _ _ refl refl whole.under_way way whole;
-      enough = c.self.invariant.enough;
-      enough_hashes = c.self.invariant.enough_hashes;
-    }
+    record { whole = whole_with (state_of c.self.inside) _ _ _ refl refl whole.under_way after whole; enough = c.self.invariant.enough; enough_hashes = c.self.invariant.enough_hashes }
 
 pub returns-clause-works : goal.returns-clause-works
 returns-clause-works g c =
@@ -75,10 +69,8 @@ returns-clause-works g c =
     let started = begins g at in
     let way = started_way _ _ started in
     let step = steps_in (state_of c.self.inside) _ _ _ c.deref-2.ensures.value c.entries-sorted.ensures c.digest.ensures c.in_ok-step.ensures in
-    rw (← c.self.view_is) (went g.D.Disk [] c.args.disk.now c.step.new.disk (state_of c.self.inside) _ _
-    (step_disk _ _ _ _ _ _ _ (stands g at) way step) (stands g at) step.goes.failures
-    (step_advances _ _ _ _ _ _ _ (stands g at) way step step.goes (gathered g at))
-    (step_made _ _ _ _ _ _ _ (stands g at) way step step.goes (started_written _ _ started)))
+    rw (← c.self.view_is) (went g.D.Disk [] c.args.disk.now c.step.new.disk (state_of c.self.inside) _ _ (step_disk _ _ _ _ _ _ _ (stands g at) way step) (stands g at) step.goes.failures
+    (step_advances _ _ _ _ _ _ _ (stands g at) way step step.goes (gathered g at)) (step_made _ _ _ _ _ _ _ (stands g at) way step step.goes (started_written _ _ started)))
 
 pub returns-then-is_empty-clause-works : goal.returns-then-is_empty-clause-works
 returns-then-is_empty-clause-works g c = nothing_done g.D.Disk _ _ _ c.requires.stands none_made
@@ -87,8 +79,7 @@ pub start-requires-clause-most : goal.start-requires-clause-most
 start-requires-clause-most g c =
     let stores : EngineState = state_of c.self.inside in
     let most = (sound_hashes stores.manifest.shape _ stores.manifest.current c.current-known.ensures.sound).most in
-    let regions : c.hashes-known.result ≡ stores.manifest.shape.hashes =
-    c.hashes-known.ensures.value ∙ ap (λ (sh : Shape). sh.hashes) c.geometry.ensures.value in
+    let regions : c.hashes-known.result ≡ stores.manifest.shape.hashes = c.hashes-known.ensures.value ∙ ap (λ (sh : Shape). sh.hashes) c.geometry.ensures.value in
     let limit : c.hashes-known.result ≤ 16 = omega (arith, c.hashes-known.ensures.value, c.hashes-known.ensures.limits.hashes_most) in
     let count : length c.deref.result.now ≡ length stores.manifest.current.hashed =
     ap length c.deref.ensures.value ∙ sym (length-map stores.hashes hash_region_of) ∙ ap length c.self.invariant.whole.hash_regions in
@@ -98,8 +89,7 @@ pub returns-clause-merges : goal.returns-clause-merges
 returns-clause-merges g c =
     let started = begins g (goal.at.returns-clause-merges g c).In-Ok in
     let step = steps_in (state_of c.self.inside) _ _ _ c.deref-2.ensures.value c.entries-sorted.ensures c.digest.ensures c.in_ok-step.ensures in
-    rw (← c.self.view_is) (begin_merges _ _ started c.step.new.self c.step.ensures.same c.in_ok-step.ensures.goes.steps
-    (found_by step.goes))
+    rw (← c.self.view_is) (begin_merges _ _ started c.step.new.self c.step.ensures.same c.in_ok-step.ensures.goes.steps (found_by step.goes))
 
 pub returns-clause-moves : goal.returns-clause-moves
 returns-clause-moves g c = λ is. let no : Moved ≡ Finished = is in cc

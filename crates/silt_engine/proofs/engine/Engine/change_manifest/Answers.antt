@@ -16,10 +16,8 @@ returns-in_err-prepare_next-clause-wrote g c =
     rw (← c.self.view_is) (wrote_off _ _ c.from_residual.ensures.1 c.prepare_next.ensures.wrote.size c.prepare_next.ensures.wrote.changes
     (most_more c.in_err-prepare_next.ensures.wrote.made (omega arith) (omega arith)) (record {
       counted = c.in_err-prepare_next.ensures.wrote.failures;
-      breaks = manifest_breaks _ _ stores _ _ stands may c.prepare_next.ensures.wrote.size c.prepare_next.ensures.wrote.changes (before_commit _ stores _ _
-          c.prepare_next.ensures.each);
-      map = manifest_map _ _ stores _ _ stands may c.prepare_next.ensures.wrote.size c.prepare_next.ensures.wrote.changes (before_commit _ stores _ _
-          c.prepare_next.ensures.each);
+      breaks = manifest_breaks _ _ stores _ _ stands may c.prepare_next.ensures.wrote.size c.prepare_next.ensures.wrote.changes (before_commit _ stores _ _ c.prepare_next.ensures.each);
+      map = manifest_map _ _ stores _ _ stands may c.prepare_next.ensures.wrote.size c.prepare_next.ensures.wrote.changes (before_commit _ stores _ _ c.prepare_next.ensures.each);
     }))
 
 pub returns-in_err-commit_next-clause-wrote : goal.returns-in_err-commit_next-clause-wrote
@@ -39,9 +37,8 @@ returns-in_err-commit_next-clause-wrote g c =
 pub returns-clause-ok : goal.returns-clause-ok
 returns-clause-ok g c =
     let stores : EngineState = state_of c.self.inside in
-    rw (← c.self.view_is) (becomes_current stores _ _ _ c.in_ok-prepare_next.ensures.state _ _ _ _ c.prepare_next.ensures.wrote.changes
-    c.commit_next.ensures.wrote.changes c.in_ok-commit_next.ensures.current c.in_ok-commit_next.ensures.state.0 c.in_ok-commit_next.ensures.new
-    c.in_ok-commit_next.ensures.state.2)
+    rw (← c.self.view_is) (becomes_current stores _ _ _ c.in_ok-prepare_next.ensures.state _ _ _ _ c.prepare_next.ensures.wrote.changes c.commit_next.ensures.wrote.changes
+    c.in_ok-commit_next.ensures.current c.in_ok-commit_next.ensures.state.0 c.in_ok-commit_next.ensures.new c.in_ok-commit_next.ensures.state.2)
 
 pub returns-clause-map : goal.returns-clause-map
 returns-clause-map g c =
@@ -55,9 +52,8 @@ returns-clause-map g c =
 pub returns-clause-wrote : goal.returns-clause-wrote
 returns-clause-wrote g c = rw (← c.self.view_is) (record {
   size = c.commit_next.ensures.wrote.size ∙ c.prepare_next.ensures.wrote.size;
-  changes = both_steps (state_of c.self.inside) c.args.next.now c.args.digests.now c.prepare_next.new.self c.in_ok-prepare_next.ensures.state
-      (g.D.Disk.content c.args.disk.now) (g.D.Disk.content c.prepare_next.new.disk) (g.D.Disk.content c.commit_next.new.disk)
-      c.prepare_next.ensures.wrote.changes c.commit_next.ensures.wrote.changes;
+  changes = both_steps (state_of c.self.inside) c.args.next.now c.args.digests.now c.prepare_next.new.self c.in_ok-prepare_next.ensures.state (g.D.Disk.content c.args.disk.now)
+      (g.D.Disk.content c.prepare_next.new.disk) (g.D.Disk.content c.commit_next.new.disk) c.prepare_next.ensures.wrote.changes c.commit_next.ensures.wrote.changes;
   made = made_both c.prepare_next.new.disk c.in_ok-prepare_next.ensures.wrote.made c.in_ok-commit_next.ensures.wrote.made refl refl;
   failures = c.in_ok-commit_next.ensures.wrote.failures ∙ c.in_ok-prepare_next.ensures.wrote.failures;
 })

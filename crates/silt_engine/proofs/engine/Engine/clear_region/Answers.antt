@@ -6,9 +6,8 @@ use Rattle.silt_engine.proofs.engine.Engine.clear_region.Goals as goal
 
 pub returns-in_err-prepare-clause-err : goal.returns-in_err-prepare-clause-err
 returns-in_err-prepare-clause-err g c =
-    on_error _ _ _ c.from_residual.ensures.1 (broke_off g.D.Disk _ _ _ _ _ (same_disk c.prepare.ensures.wrote) c.requires.stands
-    c.in_err-prepare.ensures.wrote.failures (clear_advances _ _ _ _ c.requires.stands c.requires.next c.prepare.ensures.wrote.size
-    c.prepare.ensures.wrote.changes))
+    on_error _ _ _ c.from_residual.ensures.1 (broke_off g.D.Disk _ _ _ _ _ (same_disk c.prepare.ensures.wrote) c.requires.stands c.in_err-prepare.ensures.wrote.failures (clear_advances _ _ _
+    _ c.requires.stands c.requires.next c.prepare.ensures.wrote.size c.prepare.ensures.wrote.changes))
 
 pub returns-clause-works : goal.returns-clause-works
 returns-clause-works g c = went_so g.D.Disk [] _ _ _ _ _ (same_disk c.prepare.ensures.wrote) c.requires.stands c.in_ok-prepare.ensures.wrote.failures

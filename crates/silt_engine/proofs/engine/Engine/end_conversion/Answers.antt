@@ -7,14 +7,12 @@ use Rattle.silt_engine.proofs.engine.Engine.end_conversion.Goals.{After-replace_
 use Rattle.silt_engine.proofs.engine.Engine.end_conversion.Goals as goal
 
 -- the stores with what the conversion made, in the words of the conversion that ends
-is_replaced : (g : given.Over) (c : After-replace_oldest g)
-    → ReplacesOldest c.args.self.now c.in_ok-manifest.manifest c.replace_oldest.new.self c.requires.ends.conversion
+is_replaced : (g : given.Over) (c : After-replace_oldest g) → ReplacesOldest c.args.self.now c.in_ok-manifest.manifest c.replace_oldest.new.self c.requires.ends.conversion
 is_replaced g c = subst (λ (o : Option ConversionState). IfSome o (ReplacesOldest c.args.self.now c.in_ok-manifest.manifest c.replace_oldest.new.self))
     c.requires.ends.was c.replace_oldest.ensures.replaced
 
 pub change_manifest-requires-clause-next : goal.change_manifest-requires-clause-next
-change_manifest-requires-clause-next g c κs within =
-    converted_may_become_current _ _ _ _ c.in_ok-settle_work.ensures.works.advances.stands c.in_ok-settle_work.ensures.rests c.requires.ends
+change_manifest-requires-clause-next g c κs within = converted_may_become_current _ _ _ _ c.in_ok-settle_work.ensures.works.advances.stands c.in_ok-settle_work.ensures.rests c.requires.ends
 
 pub returns-in_err-manifest-clause-err : goal.returns-in_err-manifest-clause-err
 returns-in_err-manifest-clause-err g c =
@@ -40,16 +38,14 @@ pub returns-clause-rows : goal.returns-clause-rows
 returns-clause-rows g c = λ honest.
     let is = is_replaced g (goal.at.returns-clause-rows g c).After-replace_oldest in
     let settled = c.in_ok-settle_work.ensures in
-    has_converted_rows _ _ _ _ settled.works.advances.stands settled.rests c.requires.ends _ c.change_manifest.ensures.wrote.size _ c.in_ok-manifest.ensures.ok
-    _ is.digested _ _ c.replace_oldest.ensures.whole is.is c.requires.stands honest (honest_after _ _ c.settle_work.ensures.works.same honest) (settled.stores
-    honest)
+    has_converted_rows _ _ _ _ settled.works.advances.stands settled.rests c.requires.ends _ c.change_manifest.ensures.wrote.size _ c.in_ok-manifest.ensures.ok _ is.digested _ _
+    c.replace_oldest.ensures.whole is.is c.requires.stands honest (honest_after _ _ c.settle_work.ensures.works.same honest) (settled.stores honest)
 
 pub returns-clause-finishes : goal.returns-clause-finishes
 returns-clause-finishes g c =
     let is = is_replaced g (goal.at.returns-clause-finishes g c).After-replace_oldest in
     let settled = c.in_ok-settle_work.ensures in
-    converted_finishes _ _ _ _ settled.works.advances.stands settled.rests c.requires.ends _ c.change_manifest.ensures.wrote.size _ c.in_ok-manifest.ensures.ok
-    _ is.digested _ is.is
+    converted_finishes _ _ _ _ settled.works.advances.stands settled.rests c.requires.ends _ c.change_manifest.ensures.wrote.size _ c.in_ok-manifest.ensures.ok _ is.digested _ is.is
 
 pub returns-in_err-manifest-clause-works : goal.returns-in_err-manifest-clause-works
 returns-in_err-manifest-clause-works g c =

@@ -11,13 +11,11 @@ is_replaced : (g : given.Over) (c : After-replace_sorted g)
     → c.replace_sorted.new.self ≡ sorted_replaced c.args.self.now c.in_ok-manifest.manifest c.requires.ends.2.merge.stores c.requires.ends.0
 is_replaced g c =
     let settled = c.in_ok-settle_work.ensures in
-    let may = may_stand_for _ _ _ _ _ settled.works.advances.stands settled.rests c.requires.ends.2 _ c.change_manifest.ensures.wrote.size _
-    c.in_ok-manifest.ensures.ok in
+    let may = may_stand_for _ _ _ _ _ settled.works.advances.stands settled.rests c.requires.ends.2 _ c.change_manifest.ensures.wrote.size _ c.in_ok-manifest.ensures.ok in
     rw c.requires.ends.2.was at (c.replace_sorted.ensures.replaced c.requires.ends.0 c.requires.ends.1 may)
 
 pub change_manifest-requires-clause-next : goal.change_manifest-requires-clause-next
-change_manifest-requires-clause-next g c κs within =
-    merged_may_become_current _ _ _ _ _ c.in_ok-settle_work.ensures.works.advances.stands c.in_ok-settle_work.ensures.rests c.requires.ends.2
+change_manifest-requires-clause-next g c κs within = merged_may_become_current _ _ _ _ _ c.in_ok-settle_work.ensures.works.advances.stands c.in_ok-settle_work.ensures.rests c.requires.ends.2
 
 pub returns-in_err-manifest-clause-err : goal.returns-in_err-manifest-clause-err
 returns-in_err-manifest-clause-err g c =
@@ -29,16 +27,14 @@ replace_sorted-requires g c =
     let settled = c.in_ok-settle_work.ensures in (
       c.requires.ends.0,
       c.requires.ends.1,
-      may_stand_for _ _ _ _ _ settled.works.advances.stands settled.rests c.requires.ends.2 _
-          c.change_manifest.ensures.wrote.size _ c.in_ok-manifest.ensures.ok,
+      may_stand_for _ _ _ _ _ settled.works.advances.stands settled.rests c.requires.ends.2 _ c.change_manifest.ensures.wrote.size _ c.in_ok-manifest.ensures.ok,
     )
 
 pub returns-clause-works : goal.returns-clause-works
 returns-clause-works g c =
     let is = is_replaced g (goal.at.returns-clause-works g c).After-replace_sorted in
     let settled = c.in_ok-settle_work.ensures in
-    let two = merged_advances _ _ _ _ _ settled.works.advances.stands settled.rests c.requires.ends.2 _ c.change_manifest.ensures.wrote.size _
-    c.in_ok-manifest.ensures.ok _ is in
+    let two = merged_advances _ _ _ _ _ settled.works.advances.stands settled.rests c.requires.ends.2 _ c.change_manifest.ensures.wrote.size _ c.in_ok-manifest.ensures.ok _ is in
     let rest = went_so {E = ⊤} g.D.Disk [] c.settle_work.new.disk c.change_manifest.new.disk c.args.self.now c.replace_sorted.new.self
     (Ok c.in_ok-manifest.manifest) (same_disk c.change_manifest.ensures.wrote) settled.works.advances.stands c.in_ok-manifest.ensures.wrote.failures two c.in_ok-manifest.ensures.wrote.made in
     both_went g.D.Disk [] [] _ _ _ _ _ _ _ _ _ settled.works rest (omega arith) (omega arith)

@@ -25,13 +25,10 @@ pub returns-in-Some-clause-waits : goal.returns-in-Some-clause-waits
 returns-in-Some-clause-waits g c = λ stands honest. active_waits _ _ _ c.self.view_is _ _ c.in_ok-found.ensures.last stands honest _ c.in-Some.is
 
 pub returns-in-Some-2-clause-waits : goal.returns-in-Some-2-clause-waits
-returns-in-Some-2-clause-waits g c = λ stands honest.
-    nothing_waits (g.D.Disk.content c.args.disk.now) _ c.args.self.now c.self.view_is c.args.key.now.0 _ c.in_ok-found.ensures.last stands honest (none_of _ c.in_default.not-Some)
+returns-in-Some-2-clause-waits g c = λ stands honest. nothing_waits _ _ _ c.self.view_is _ _ c.in_ok-found.ensures.last stands honest (none_of _ c.in_default.not-Some)
 
 pub returns-in_default-3-clause-waits : goal.returns-in_default-3-clause-waits
-returns-in_default-3-clause-waits g c = λ stands honest.
-    nothing_waits (g.D.Disk.content c.args.disk.now) _ c.args.self.now c.self.view_is c.args.key.now.0 _ c.in_ok-found.ensures.last stands honest (none_of _ c.in_default.not-Some)
+returns-in_default-3-clause-waits g c = λ stands honest. nothing_waits _ _ _ c.self.view_is _ _ c.in_ok-found.ensures.last stands honest (none_of _ c.in_default.not-Some)
 
 pub returns-clause-waits : goal.returns-clause-waits
-returns-clause-waits g c = λ stands honest.
-    nothing_waits (g.D.Disk.content c.args.disk.now) _ c.args.self.now c.self.view_is c.args.key.now.0 _ c.in_ok-found.ensures.last stands honest (none_of _ c.in_default.not-Some)
+returns-clause-waits g c = λ stands honest. nothing_waits _ _ _ c.self.view_is _ _ c.in_ok-found.ensures.last stands honest (none_of _ c.in_default.not-Some)

@@ -3,8 +3,7 @@ use Rattle.silt_engine.proofs.Walks.{found_delete, found_put, gets_none, gets_va
 use Rattle.silt_engine.proofs.engine.Engine.look_up.Goals as goal
 
 pub returns-in-Some-clause-found : goal.returns-in-Some-clause-found
-returns-in-Some-clause-found g c = λ stands is honest. found_put _ _ _ _ _ _ _ (c.in_ok-holder.ensures.found stands honest) c.in-Some.is
-    (c.in_ok-holder.ensures.value honest) (cc)
+returns-in-Some-clause-found g c = λ stands is honest. found_put _ _ _ _ _ _ _ (c.in_ok-holder.ensures.found stands honest) c.in-Some.is (c.in_ok-holder.ensures.value honest) (cc)
 
 pub returns-in-Some-clause-none : goal.returns-in-Some-clause-none
 returns-in-Some-clause-none g c = λ stands is honest. found_delete _ _ _ _ _ _ (c.in_ok-holder.ensures.found stands honest) c.in-Some.is (cc)

@@ -26,9 +26,8 @@ returns-in-Ok-clause-ok c =
     let logs = c.logs.ensures.value ∙ ap (λ (sh : Shape). sh.logs) c.geometry-geometry.ensures.value in
     let lowest = rw c.current-current.ensures.value at c.in-Some.ensures.some in
     let next : NextLog = record { store = c.in-Ok.store; body = c.next_body.result } in
-    rw (← c.self.view_is) (is_next stores _ _ _ next logs c.self.invariant.whole c.current-current.ensures.sound lowest (λ e.
-    c.if-current-eq-LAST_GENERATION.false (ap (λ (b : Body). b.generation) c.current-current.ensures.value ∙ e))
-    (cc (c.next_body.ensures, c.current-current.ensures.value)) (cc (c.in-Ok.ensures, c.geometry-geometry.ensures.value)))
+    rw (← c.self.view_is) (is_next stores _ _ _ next logs c.self.invariant.whole c.current-current.ensures.sound lowest (λ e. c.if-current-eq-LAST_GENERATION.false (ap (λ (b : Body).
+    b.generation) c.current-current.ensures.value ∙ e)) (cc (c.next_body.ensures, c.current-current.ensures.value)) (cc (c.in-Ok.ensures, c.geometry-geometry.ensures.value)))
 
 pub returns-in-Err-clause-err : goal.returns-in-Err-clause-err
 returns-in-Err-clause-err c =

@@ -15,9 +15,8 @@ returns-in_err-open_commits-clause-err g c =
 pub returns-clause-works : goal.returns-clause-works
 returns-clause-works g c =
     let stands = rw (← c.self.view_is) at c.requires.stands in
-    rw (← c.self.view_is) (went_so g.D.Disk [] _ _ _ _ _ (same_disk c.open_commits.ensures.wrote) stands c.in_ok-open_commits.ensures.wrote.failures (flushed _
-    _ _ c.open_commits.new.self stands c.open_commits.ensures.wrote.size c.open_commits.ensures.wrote.changes c.in_ok-open_commits.ensures.ok)
-    c.in_ok-open_commits.ensures.wrote.made)
+    rw (← c.self.view_is) (went_so g.D.Disk [] _ _ _ _ _ (same_disk c.open_commits.ensures.wrote) stands c.in_ok-open_commits.ensures.wrote.failures (flushed _ _ _ c.open_commits.new.self
+    stands c.open_commits.ensures.wrote.size c.open_commits.ensures.wrote.changes c.in_ok-open_commits.ensures.ok) c.in_ok-open_commits.ensures.wrote.made)
 
 pub returns-clause-quiet : goal.returns-clause-quiet
 returns-clause-quiet g c =

@@ -24,15 +24,12 @@ returns-in_err-step-clause-err g c =
     let at = (goal.at.returns-in_err-step-clause-err g c).In-Some-last in
     let stores : EngineState = state_of c.self.inside in
     let after : EngineState = record stores { converting = Some c.step.new.self } in
-    let same : after ≡ stores =
-    ap (λ (o : Option ConversionState). record stores { converting = o }) (ap Some c.in_err-step.ensures.err ∙ sym c.in-Some.is) in
+    let same : after ≡ stores = ap (λ (o : Option ConversionState). record stores { converting = o }) (ap Some c.in_err-step.ensures.err ∙ sym c.in-Some.is) in
     let wrote = c.step.ensures.wrote in
     let breaks = next_failed_breaks _ _ stores _ _ c.step.new.self (stands g at) (read g at) c.in-Some.is (turn g at) wrote.size wrote.changes in
-    let remaps = next_failed_map _ _ stores _ _ c.step.new.self (stands g at) (read g at) c.in-Some.is (turn g at) wrote.size wrote.changes
-    (Some c.step.new.self) in
-    rw (← c.self.view_is) (on_error c.from_residual.result (refusal_of_step c.in_err-step.field-0.0) _ c.from_residual.ensures.1
-    (step_cause g.D.Disk c.args.disk.now c.step.new.disk stores after c.in_err-step.field-0.0 c.in_err-step.ensures.wrote.failures same (turn g at)
-    breaks remaps))
+    let remaps = next_failed_map _ _ stores _ _ c.step.new.self (stands g at) (read g at) c.in-Some.is (turn g at) wrote.size wrote.changes (Some c.step.new.self) in
+    rw (← c.self.view_is) (on_error c.from_residual.result (refusal_of_step c.in_err-step.field-0.0) _ c.from_residual.ensures.1 (step_cause g.D.Disk c.args.disk.now c.step.new.disk stores
+    after c.in_err-step.field-0.0 c.in_err-step.ensures.wrote.failures same (turn g at) breaks remaps))
 
 pub returns-clause-works : goal.returns-clause-works
 returns-clause-works g c =
@@ -49,16 +46,14 @@ step-requires-clause-more g c κs within =
 pub invariant_of-self : goal.invariant_of-self
 invariant_of-self g c =
     let stores : EngineState = state_of c.self.inside in
-    let same = ap (λ (o : Option ConversionState). let s : EngineState = record stores { converting = o } in s)
-    (ap Some c.in_err-step.ensures.err ∙ sym c.in-Some.is) in
+    let same = ap (λ (o : Option ConversionState). let s : EngineState = record stores { converting = o } in s) (ap Some c.in_err-step.ensures.err ∙ sym c.in-Some.is) in
     record { whole = subst AreWhole (sym same) c.self.invariant.whole; enough = c.self.invariant.enough; enough_hashes = c.self.invariant.enough_hashes }
 
 pub invariant_of-self-2 : goal.invariant_of-self-2
 invariant_of-self-2 g c =
     let at = (goal.at.invariant_of-self-2 g c).In-Some-last in
     let wrote = c.step.ensures.wrote in
-    let goes = next_advances _ _ _ _ _ _ (stands g at) (read g at) c.in-Some.is (turn g at) wrote.size wrote.changes
-    c.in_ok-step.ensures.ok c.step.ensures.written in
+    let goes = next_advances _ _ _ _ _ _ (stands g at) (read g at) c.in-Some.is (turn g at) wrote.size wrote.changes c.in_ok-step.ensures.ok c.step.ensures.written in
     record { whole = goes.stands.whole; enough = c.self.invariant.enough; enough_hashes = c.self.invariant.enough_hashes }
 
 pub returns-clause-converts : goal.returns-clause-converts

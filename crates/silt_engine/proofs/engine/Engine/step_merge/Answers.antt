@@ -33,8 +33,7 @@ returns-in_err-step-clause-err g c =
     let stores : EngineState = state_of c.self.inside in
     let after : EngineState = record stores { merging = Some c.step.new.self } in
     let step = steps_in stores _ _ _ c.deref.ensures.value c.entries.ensures c.digest.ensures c.in_err-step.ensures in
-    let same : c.step.new.self ≡ c.in-Some.merge → after ≡ stores =
-    λ e. ap (λ (o : Option MergeState). record stores { merging = o }) (ap Some e ∙ sym c.in-Some.is) in
+    let same : c.step.new.self ≡ c.in-Some.merge → after ≡ stores = λ e. ap (λ (o : Option MergeState). record stores { merging = o }) (ap Some e ∙ sym c.in-Some.is) in
     let remaps = failed_map _ _ _ _ _ _ _ (stands g at) (way g at) step (Some c.step.new.self) in
     let lacks = subst (λ (o : Option MergeState). IfSome o (λ merge. TakesMemory (g.D.Disk.content c.args.disk.now) (oldest_stores merge.stores stores.hashes)
     stores.sorted merge)) (sym c.in-Some.is) in
@@ -44,37 +43,26 @@ returns-in_err-step-clause-err g c =
 pub invariant_of-self : goal.invariant_of-self
 invariant_of-self g c =
     let at = (goal.at.invariant_of-self g c).In-Some in
-    let stores : EngineState = state_of c.self.inside in
-    let step = steps_in stores _ _ _ c.deref.ensures.value c.entries.ensures c.digest.ensures c.step.ensures in
+    let step = steps_in (state_of c.self.inside) _ _ _ c.deref.ensures.value c.entries.ensures c.digest.ensures c.step.ensures in
     let after = way_after _ _ _ _ _ _ _ (stands g at) (way g at) step in
     let whole = c.self.invariant.whole in
-    record {
-      whole = whole_with stores _ _ _ refl refl whole.under_way after whole;
-      enough = c.self.invariant.enough;
-      enough_hashes = c.self.invariant.enough_hashes;
-    }
+    record { whole = whole_with (state_of c.self.inside) _ _ _ refl refl whole.under_way after whole; enough = c.self.invariant.enough; enough_hashes = c.self.invariant.enough_hashes }
 
 pub invariant_of-self-2 : goal.invariant_of-self-2
 invariant_of-self-2 g c =
     let at = (goal.at.invariant_of-self-2 g c).In-Some in
-    let stores : EngineState = state_of c.self.inside in
-    let step = steps_in stores _ _ _ c.deref.ensures.value c.entries.ensures c.digest.ensures c.step.ensures in
+    let step = steps_in (state_of c.self.inside) _ _ _ c.deref.ensures.value c.entries.ensures c.digest.ensures c.step.ensures in
     let after = way_after _ _ _ _ _ _ _ (stands g at) (way g at) step in
     let whole = c.self.invariant.whole in
-    record {
-      whole = whole_with stores _ _ _ refl refl whole.under_way after whole;
-      enough = c.self.invariant.enough;
-      enough_hashes = c.self.invariant.enough_hashes;
-    }
+    record { whole = whole_with (state_of c.self.inside) _ _ _ refl refl whole.under_way after whole; enough = c.self.invariant.enough; enough_hashes = c.self.invariant.enough_hashes }
 
 pub returns-clause-works : goal.returns-clause-works
 returns-clause-works g c =
     let at = (goal.at.returns-clause-works g c).In-Some in
     let step = steps_in (state_of c.self.inside) _ _ _ c.deref.ensures.value c.entries.ensures c.digest.ensures c.in_ok-step.ensures in
-    rw (← c.self.view_is) (went g.D.Disk [] c.args.disk.now c.step.new.disk (state_of c.self.inside) _ _
-    (step_disk _ _ _ _ _ _ _ (stands g at) (way g at) step) (stands g at) step.goes.failures
-    (step_advances _ _ _ _ _ _ _ (stands g at) (way g at) step step.goes (gathered g at))
-    (step_made _ _ _ _ _ _ _ (stands g at) (way g at) step step.goes (ap written_by_merge c.in-Some.is)))
+    rw (← c.self.view_is) (went g.D.Disk [] c.args.disk.now c.step.new.disk (state_of c.self.inside) _ _ (step_disk _ _ _ _ _ _ _ (stands g at) (way g at) step) (stands g at)
+    step.goes.failures (step_advances _ _ _ _ _ _ _ (stands g at) (way g at) step step.goes (gathered g at)) (step_made _ _ _ _ _ _ _ (stands g at) (way g at) step step.goes (ap
+    written_by_merge c.in-Some.is)))
 
 pub returns-clause-merges : goal.returns-clause-merges
 returns-clause-merges g c =

@@ -5,8 +5,7 @@ use Rattle.silt_engine.proofs.Exits.{both_went, then_broke_off, refused, went_of
 use Rattle.silt_engine.proofs.engine.Engine.write_in_next.Goals as goal
 
 pub returns-in-Ok-write_active-clause-works : goal.returns-in-Ok-write_active-clause-works
-returns-in-Ok-write_active-clause-works g c =
-    both_went g.D.Disk [] _ _ _ _ _ _ _ _ _ _ c.in_default.ensures.works c.in-Ok-write_active.ensures.works (omega arith) (omega arith)
+returns-in-Ok-write_active-clause-works g c = both_went g.D.Disk [] _ _ _ _ _ _ _ _ _ _ c.in_default.ensures.works c.in-Ok-write_active.ensures.works (omega arith) (omega arith)
 
 pub returns-in-Ok-write_active-clause-current : goal.returns-in-Ok-write_active-clause-current
 returns-in-Ok-write_active-clause-current g c =
