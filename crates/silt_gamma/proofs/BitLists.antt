@@ -1,6 +1,6 @@
 -- Lemmas on the bits of numbers and of bytes.
-use Rattle.std.proofs.Common.{◌≡◌, ℕ, zero, suc, ◌+◌, ◌-◌, ◌*◌, ◌/◌, ◌%◌, ◌^◌, ◌<◌, ◌≤◌, List, [], ◌∷◌, ◌++◌, length, take, drop, replicate, refl, sym, ap}
-use Rattle.std.proofs.Common.{zero-add, add-zero, arith, length-append}
+use Rattle.std.proofs.Common.{◌≡◌, ℕ, zero, suc, ◌+◌, ◌-◌, ◌*◌, ◌/◌, ◌%◌, ◌^◌, ◌<◌, ◌≤◌, List, [], ◌∷◌, ◌++◌, length, take, drop, replicate, refl, sym, ap, zero-add, add-zero, arith}
+use Rattle.std.proofs.Common.{length-append}
 use Rattle.std.proofs.lemmas.List.{take_at, drop_at, take-append-drop, length-take-le, replicate-append-replicate, take-replicate}
 use Rattle.std.proofs.Math.Seq.{take-append-add}
 use Rattle.std.specs.Int.{w64, byte_at, bytes_high_first, to_be_bytes}
@@ -19,8 +19,7 @@ pub low_bits_split : (a b n : ℕ) → low_bits (a + b) n ≡ low_bits a (n / 2 
 low_bits_split zero b n = ap (λ (w : ℕ). low_bits w n) (zero-add b)
 low_bits_split (suc a) b n =
     let e : suc a + b ≡ suc (b + a) = omega arith in
-    let f : b + a ≡ a + b = omega arith in
-    cc (shr-shr n b a, low_bits_split a b n)
+    search (arith, low_bits_split a b n, shr-shr)
 
 -- a byte has eight bits
 pub length-bits_of : (bytes : List ℕ) → length (bits_of bytes) ≡ 8 * length bytes

@@ -13,8 +13,7 @@ holds_front len spare bytes new within short code =
     let count = length_front len bytes within in
     let shown : take len (bits_of new) ≡ front = cc (take_at front (replicate spare 0) len count) in
     let all = ap length code ∙ length-append front (replicate spare 0) in
-    let size = length-bits_of new in
-    record { view = shown; filled = record { spare = spare; short = short; code = cc }; within = omega arith }
+    search (arith, length-bits_of)
 
 -- whole bytes stay
 pub cut_whole : (len k : ℕ) (bytes new : List ℕ) → len ≤ 8 * length bytes → len ≡ 8 * k → new ≡ take k bytes → Holds len new (take len (bits_of bytes))

@@ -1,5 +1,5 @@
 -- Laws of the gamma code.
-use Rattle.std.proofs.Common.{◌≡◌, ℕ, zero, suc, ◌+◌, ◌/◌, ◌%◌, ◌^◌, ◌<◌, ◌≤◌, inl, inr, Bool, true, false, nat_le, if◌then◌else◌, List, ◌∷◌, ◌++◌, replicate, refl, sym, ap, ◌∙◌, arith}
+use Rattle.std.proofs.Common.{◌≡◌, ℕ, zero, suc, ◌+◌, ◌/◌, ◌%◌, ◌^◌, ◌<◌, ◌≤◌, inl, inr, List, ◌∷◌, ◌++◌, replicate, refl, sym, ap, ◌∙◌, arith}
 use Rattle.std.proofs.Math.Pow.{pow_mono, pow_pos}
 use Rattle.std.proofs.lemmas.Bool.{leb-true, leb-false, cases_order}
 use Rattle.std.proofs.lemmas.List.{append_assoc}
@@ -10,17 +10,12 @@ use Rattle.silt_gamma.specs.Bits.{low_bits}
 -- the exponent is that of the greatest power of two up to n
 pub exponent_fits : (k n : ℕ) → 1 ≤ n → n < 2 ^ (k + 1) → (2 ^ exponent_up_to k n ≤ n) × (n < 2 ^ (exponent_up_to k n + 1))
 exponent_fits zero n low high = (omega arith, omega arith)
-exponent_fits (suc k) n low high = go (nat_le (2 ^ suc k) n) refl (exponent_fits k n low)
-  where
-    go : (b : Bool) → nat_le (2 ^ suc k) n ≡ b → (n < 2 ^ (k + 1) → (2 ^ exponent_up_to k n ≤ n) × (n < 2 ^ (exponent_up_to k n + 1)))
-        → (2 ^ (if b then suc k else exponent_up_to k n) ≤ n) × (n < 2 ^ ((if b then suc k else exponent_up_to k n) + 1))
-    go true e rest = (leb-true (2 ^ suc k) n e, high)
-    go false e rest = rest (let h = leb-false (2 ^ suc k) n e in let s : 2 ^ (k + 1) ≡ 2 ^ suc k = ap (λ (x : ℕ). 2 ^ x) (omega arith) in omega arith)
+exponent_fits (suc k) n low high = search (arith, exponent_fits k n low, leb-true, leb-false)
 
 -- the exponent is at most the limit
 pub exponent_least : (k n : ℕ) → exponent_up_to k n ≤ k
 exponent_least zero n = omega arith
-exponent_least (suc k) n = let h = exponent_least k n in elim (nat_le (2 ^ suc k) n) as (λ b. (if b then suc k else exponent_up_to k n) ≤ suc k) [ true ↦ omega arith | false ↦ omega arith ]
+exponent_least (suc k) n = search (arith, exponent_least k n)
 
 -- one exponent fits
 pub one_exponent : (j k n : ℕ) → 2 ^ j ≤ n → n < 2 ^ (j + 1) → 2 ^ k ≤ n → n < 2 ^ (k + 1) → j ≡ k
@@ -46,8 +41,7 @@ top_bit : (k n : ℕ) → 2 ^ k ≤ n → n < 2 ^ (k + 1) → n / 2 ^ k ≡ 1
 top_bit k n low high =
     let next : k + 1 ≡ 1 + k = omega arith in
     let most : n / 2 ^ k < 2 = shr_below n 1 k (rw next at high) in
-    let least : 1 ≤ n / 2 ^ k = le-div 1 n (2 ^ k) (pow_pos k) (omega arith) in
-    omega arith
+    search (arith, le-div, pow_pos)
 
 -- zeros up to the first one
 zeros_same : (a b : ℕ) (us vs : List ℕ) → replicate a 0 ++ 1 ∷ us ≡ replicate b 0 ++ 1 ∷ vs → (a ≡ b) × (us ≡ vs)
@@ -74,10 +68,7 @@ prefix_from : (a b m n : ℕ) (xs ys : List ℕ) → 2 ^ a ≤ m → m < 2 ^ (a 
     → (replicate a 0 ++ low_bits (suc a) m) ++ xs ≡ (replicate b 0 ++ low_bits (suc b) n) ++ ys → (m ≡ n) × (xs ≡ ys)
 prefix_from a b m n xs ys ma mb na nb e =
     let both = zeros_same a b (low_bits a m ++ xs) (low_bits b n ++ ys) (sym (front a m xs ma mb) ∙ e ∙ front b n ys na nb) in
-    let rest = low_bits_same a m n xs ys (cc (both.0, both.1)) in
-    let qm = top_bit a m ma mb in
-    let qn = top_bit a n (rw (← both.0) at na) (rw (← both.0) at nb) in
-    (omega (arith, rw qm at (shr_split m a), rw qn at (shr_split n a), rest.0), rest.1)
+    search (arith, low_bits_same, top_bit, shr_split)
 
 -- the law, for two codes and what follows them
 pub codes_apart : (m n : ℕ) (xs ys : List ℕ) → HasCode m → HasCode n → gamma_code m ++ xs ≡ gamma_code n ++ ys → (m ≡ n) × (xs ≡ ys)
@@ -87,8 +78,7 @@ codes_apart m n xs ys inm inn e =
     let fn = exponent_fits 31 n inn.0 inn.1 in
     let a : exponent_up_to 31 m + 1 ≡ suc (exponent_up_to 31 m) = omega arith in
     let b : exponent_up_to 31 n + 1 ≡ suc (exponent_up_to 31 n) = omega arith in
-    prefix_from (exponent_up_to 31 m) (exponent_up_to 31 n) m n xs ys fm.0 fm.1 fn.0 fn.1
-    (sym (ap (λ (w : ℕ). (replicate (exponent_up_to 31 m) 0 ++ low_bits w m) ++ xs) a) ∙ e ∙ ap (λ (w : ℕ). (replicate (exponent_up_to 31 n) 0 ++ low_bits w n) ++ ys) b)
+    search (arith, prefix_from)
 
 -- no code is a prefix of another
 pub prefix_law : PrefixLaw

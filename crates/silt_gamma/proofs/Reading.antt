@@ -1,5 +1,6 @@
 -- Lemmas on reading a code at the front of a window.
-use Rattle.std.proofs.Common.{◌≡◌, ℕ, suc, ◌+◌, ◌-◌, ◌*◌, ◌/◌, ◌%◌, ◌^◌, ◌<◌, ◌≤◌, List, [], ◌++◌, length, take, drop, replicate, refl, sym, ap, ◌∙◌, inl, inr, ◌⊎◌, arith, length-append, length-drop}
+use Rattle.std.proofs.Common.{◌≡◌, ℕ, suc, ◌+◌, ◌-◌, ◌*◌, ◌/◌, ◌%◌, ◌^◌, ◌<◌, ◌≤◌, List, [], ◌++◌, length, take, drop, replicate, refl, sym, ap, ◌∙◌, inl, inr, ◌⊎◌, arith, length-append}
+use Rattle.std.proofs.Common.{length-drop}
 use Rattle.std.specs.Int.Count.{count_leading_zeros, leading_of_zero}
 use Rattle.std.proofs.lemmas.List.{take_at, drop_at, take-take, take-append-le, drop-append-le, take-append-drop, length-take-le, drop-drop, drop-take}
 use Rattle.std.proofs.lemmas.Nat.{leading_top, field_of, mod_below, shl-shr, shr-shr, shr_below, le-div, pow-add, pow_pos}
@@ -43,8 +44,7 @@ front_of bytes at end window ready w left shows word within =
 
 -- how many bits are left
 length_left : (bytes : List ℕ) (at end window ready : ℕ) (left : List ℕ) → Shows bytes at end window ready left → length left ≡ end - at
-length_left bytes at end window ready left shows =
-    rw (← shows.view) (length-take-le (end - at) (drop at (bits_of bytes)) (omega (arith, length-bits_of bytes, length-drop at (bits_of bytes))))
+length_left bytes at end window ready left shows = rw (← shows.view) (search (arith, length-take-le, length-bits_of, length-drop))
 
 -- what is left after w bits
 pub left_after : (bytes : List ℕ) (at end window ready w : ℕ) (left : List ℕ) → Shows bytes at end window ready left → w ≤ end - at
@@ -66,13 +66,7 @@ window_after bytes at end window ready w is word within =
     let number : window * 2 ^ w % 2 ^ 64 / 2 ^ (64 - (ready - w)) ≡ top % 2 ^ (ready - w) =
     cc (shr-shr ((window % 2 ^ (64 - w)) * 2 ^ w) w (64 - ready), shl-shr (window % 2 ^ (64 - w)) w, field_of window (ready - w) (64 - ready)) in
     let low = drop_at (low_bits w (top / 2 ^ (ready - w))) (low_bits (ready - w) top) w (length-low_bits w (top / 2 ^ (ready - w))) in
-    record {
-      ordered = omega arith;
-      inside = is.inside;
-      small = mod_below (window * 2 ^ w) (2 ^ 64) (omega arith);
-      upto = omega arith;
-      word = cc (is.word, low_bits_mod (ready - w) top, low_bits_split w (ready - w) top, drop-take w (ready - w) (drop at all), drop-drop w at all);
-    }
+    search (arith, mod_below, low_bits_mod, low_bits_split, drop-take, drop-drop)
 
 -- the fields with a word read anew
 pub window_full : (bytes : List ℕ) (at end window ready fresh : ℕ) → IsWindow bytes at end window ready → fresh < 2 ^ 64
@@ -91,8 +85,7 @@ positive_word window z zeros few = elim (cases_eq window 0) [
 word_from_top : (window z j c k : ℕ) → c + suc j ≡ 64 → z ≡ c → z ≤ 31 → k ≡ 64 - (2 * z + 1) → 2 ^ j ≤ window → window < 2 ^ suc j → (2 ^ z * 2 ^ k ≤ window) × (window < 2 ^ ((z + 1) + k))
 word_from_top window z j c k sum zeros few rest low high =
     let place : j ≡ z + k = omega arith in
-    let after : suc j ≡ (z + 1) + k = omega arith in
-    (rw (← pow-add 2 z k, ← place) low, rw after at high)
+    search (arith, pow-add)
 
 -- the zeros in front by the number behind them
 top_from_number : (window n e j c k : ℕ) → c + suc j ≡ 64 → 2 ^ j ≤ window → window < 2 ^ suc j → k ≡ 64 - (2 * e + 1) → window / 2 ^ k ≡ n → 2 ^ e ≤ n → n < 2 ^ (e + 1) → e ≤ 31 → c ≡ e
@@ -103,8 +96,7 @@ top_from_number window n e j c k sum low high rest number least most few =
     let from : 2 ^ (e + k) ≤ window = let p = pow-add 2 e k in omega arith in
     let upto : window < 2 ^ (e + 1) * 2 ^ k = (div-lt_iff_lt-mul (pow_pos k)).0 (omega arith) in
     let next : 2 ^ (e + k + 1) ≡ 2 ^ (e + 1) * 2 ^ k = ap (λ (x : ℕ). 2 ^ x) (omega arith) ∙ pow-add 2 (e + 1) k in
-    let same = one_exponent j (e + k) window low (omega arith) from (omega arith) in
-    omega arith
+    search (arith, one_exponent)
 
 -- a word with few zeros in front begins with a code
 pub reads_code : (bytes : List ℕ) (at end window ready w : ℕ) (left : List ℕ) → Shows bytes at end window ready left → w ≡ 2 * count_leading_zeros 64 window + 1 → w ≤ ready → w ≤ end - at
@@ -123,12 +115,11 @@ reads_code bytes at end window ready w left shows width word within =
     let some : 1 ≤ 2 ^ z = pow_pos z in
     let fits : n < 2 ^ 32 = omega arith in
     let has : HasCode n = (omega arith, fits) in
-    let code : take w left ≡ gamma_code n = front_of bytes at end window ready w left shows word within ∙ ap (λ (x : ℕ). low_bits x n) width ∙ sym (gamma_code_is z n has low high) in (
+    let code : take w left ≡ gamma_code n = cc (front_of bytes at end window ready w left shows word within, gamma_code_is z n has low high) in (
       fits,
       record {
         in_range = has;
-        split = sym (take-append-drop w left) ∙ ap (λ (xs : List ℕ). xs ++ drop w left) code
-            ∙ ap (λ (xs : List ℕ). gamma_code n ++ xs) (sym (left_after bytes at end window ready w left shows within));
+        split = cc (take-append-drop w left, left_after bytes at end window ready w left shows within);
       },
     )
 
@@ -194,9 +185,4 @@ code_of_exponent k n some small low high =
 -- a code that is taken off leaves fewer bits
 pub fewer_left : (n : ℕ) (bits rest : List ℕ) → BeginsWithCode bits n rest → length rest < length bits
 unfolding gamma_code
-fewer_left n bits rest begins =
-    let e = exponent_up_to 31 n in
-    let all = ap length begins.split ∙ length-append (replicate e 0 ++ low_bits (e + 1) n) rest in
-    let code = length-append (replicate e 0) (low_bits (e + 1) n) in
-    let low = length-low_bits (e + 1) n in
-    omega arith
+fewer_left n bits rest begins = search (arith, length-append, length-low_bits)

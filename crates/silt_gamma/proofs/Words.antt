@@ -6,8 +6,8 @@ use Rattle.std.proofs.lemmas.Nat.{or_shifted, shr_below, be_bytes_8}
 use Rattle.std.proofs.lemmas.Bool.{cases_lt}
 use Rattle.std.specs.Int.{w64, from_be_bytes}
 use Rattle.silt_gamma.specs.Bits.{low_bits, bits_of}
-use Rattle.silt_gamma.proofs.BitLists.{length-low_bits, length-bits_of, low_bits_split, low_bits_joined, low_bits_mod, moved_word, drop-bits_of, bits_of-append}
-use Rattle.silt_gamma.proofs.BitLists.{bits_of_to_be, bits_of-zeros, take_filled}
+use Rattle.silt_gamma.proofs.BitLists.{length-low_bits, length-bits_of, low_bits_split, low_bits_joined, low_bits_mod, moved_word, drop-bits_of, bits_of-append, bits_of_to_be, bits_of-zeros}
+use Rattle.silt_gamma.proofs.BitLists.{take_filled}
 
 -- a word moved up by s bits, and the highest s bits of the byte after it
 pub joined_window : (s t u word ninth : ℕ) (more : List ℕ) → t + s ≡ 64 → s + u ≡ 8 → ninth < 256
@@ -28,8 +28,7 @@ joined_window s t u word ninth more whole byte small =
       append_assoc middle (low_bits u ninth) more,
       append_assoc (low_bits t word) middle rest,
     ) in
-    let sized : length front ≡ 64 = omega (arith, length-append (low_bits t word) middle, length-low_bits t word, length-low_bits s (ninth / 2 ^ u)) in
-    cc (drop_at high (front ++ rest) s (length-low_bits s (word / 2 ^ t)), take_at front rest 64 sized)
+    search (arith, length-append, length-low_bits, drop_at, take_at)
 
 -- the same bits, by their place in all the bytes
 pub window_inside : (at q s : ℕ) (bytes : List ℕ) → at ≡ 8 * q + s → q + 9 ≤ length bytes → s < 8
@@ -59,16 +58,7 @@ window_padded at q s r bytes place small within sized short =
 -- the first eight bytes, one by one
 first_eight : (bytes : List ℕ) → 9 ≤ length bytes
     → take 8 bytes ≡ get_or bytes 0 0 ∷ get_or bytes 1 0 ∷ get_or bytes 2 0 ∷ get_or bytes 3 0 ∷ get_or bytes 4 0 ∷ get_or bytes 5 0 ∷ get_or bytes 6 0 ∷ get_or bytes 7 0 ∷ []
-first_eight bytes enough = cc (
-  drop_more bytes 0 0 (omega arith),
-  drop_more bytes 1 0 (omega arith),
-  drop_more bytes 2 0 (omega arith),
-  drop_more bytes 3 0 (omega arith),
-  drop_more bytes 4 0 (omega arith),
-  drop_more bytes 5 0 (omega arith),
-  drop_more bytes 6 0 (omega arith),
-  drop_more bytes 7 0 (omega arith),
-)
+first_eight bytes enough = search (arith, drop_more)
 
 -- the bits of the bytes that one word and the byte after it are read from
 pub front_window_is : (s word : ℕ) (bytes : List ℕ) → 9 ≤ length bytes → s < 8 → ((i : ℕ) → get_or bytes i 0 < 256)

@@ -1,7 +1,7 @@
 -- Lemmas on appending bits.
 use Rattle.std.proofs.Common.{◌≡◌, ℕ, ◌+◌, ◌-◌, ◌*◌, ◌/◌, ◌%◌, ◌^◌, ◌<◌, ◌≤◌, List, [], ◌∷◌, ◌++◌, length, take, get_or, replicate, sym, ap, ◌∙◌, add-zero, arith, length-append}
-use Rattle.std.proofs.lemmas.List.{append-nil, append_assoc, drop_all, drop_at, drop_more, get_or_append_left, length-replicate, length-take-le}
-use Rattle.std.proofs.lemmas.List.{replicate-append-replicate, set_at, take-append-drop, take_at}
+use Rattle.std.proofs.lemmas.List.{append-nil, append_assoc, drop_all, drop_at, drop_more, get_or_append_left, length-replicate, length-take-le, replicate-append-replicate, set_at}
+use Rattle.std.proofs.lemmas.List.{take-append-drop, take_at}
 use Rattle.std.proofs.Math.Seq.{take-append-add}
 use Rattle.std.proofs.Math.ListN.{set}
 use Rattle.std.proofs.Math.Nat.{zero-mod}
@@ -11,8 +11,8 @@ use Rattle.std.proofs.lemmas.Nat.{or_shifted, shl_whole, shl-shr, shr_below, shr
 use Rattle.std.specs.Int.{w64, to_be_bytes}
 use Rattle.silt_gamma.specs.Bits.{low_bits, bits_of, HoldsBits}
 use Rattle.silt_gamma.proofs.Gamma.{low_bits_same}
-use Rattle.silt_gamma.proofs.BitLists.{length-bits_of, length-low_bits, low_bits_moved, low_bits_mod, low_bits_split, low_bits_joined, low_bits-zero}
-use Rattle.silt_gamma.proofs.BitLists.{bits_of-append, bits_of-take, bits_of_to_be, take_into_zeros}
+use Rattle.silt_gamma.proofs.BitLists.{length-bits_of, length-low_bits, low_bits_moved, low_bits_mod, low_bits_split, low_bits_joined, low_bits-zero, bits_of-append, bits_of-take}
+use Rattle.silt_gamma.proofs.BitLists.{bits_of_to_be, take_into_zeros}
 
 -- how many bits the first ones are
 pub length_front : (len : ℕ) (bytes : List ℕ) → len ≤ 8 * length bytes → length (take len (bits_of bytes)) ≡ len
@@ -162,9 +162,7 @@ holds_after len width value word after bytes new old sum within view same filled
     let count = length_front len bytes within in
     let size : length written ≡ after = omega (arith, ap length view, length-append old (low_bits width value), length-low_bits width value) in
     let all = ap length code ∙ length-append written (replicate filled.spare 0) in
-    let bytes_size = length-bits_of new in
-    let shown : take after (bits_of new) ≡ written = cc (take_at written (replicate filled.spare 0) after size) in
-    record { view = shown; filled = record { spare = filled.spare; short = filled.short; code = cc }; within = omega arith }
+    search (arith, length-bits_of, take_at, view)
 
 -- the bits of a word that a byte with some bits has room for
 pub high_bits_fit : (u word : ℕ) → u < 8 → word < 2 ^ 64 → word / 2 ^ (56 + u) < 2 ^ 8
