@@ -1,9 +1,8 @@
 -- Which bytes of an image count, and what a change leaves of its stores.
-use Rattle.silt_image.proofs.Common.{◌≢◌, zero, suc, ◌+◌, ◌%◌, ◌≤◌, ◌<◌, ◌⊎◌, ◌==◌, inl, inr, true, false, nat_lt, slice_range, slice_get, sym, ap, ◌∙◌, arith, list_any, range_with_len, and_parts}
-use Rattle.silt_image.proofs.Common.{or_parts, eq-eqb, ne_eqb, length-between, Shape, device_size, StoredRow, put_count, is_well_formed, manifest_found, open_record, Body, Digests, SlotRecord}
-use Rattle.silt_image.proofs.Common.{Damage, header_of, header_shape, log_part, Stores, stores_of_current, stores_shaped, findings_of, map_where_sound, all_logs_fit, rows_found, with_part_rows}
-use Rattle.silt_image.proofs.Common.{map_of_rows, HasStores, Finding}
-use Rattle.std.proofs.Common.{◌≡◌, ℕ, ◌*◌, List, [], ◌∷◌, length, map, Contains, Option, Result, Ok, Err, refl}
+use Rattle.silt_image.proofs.Common.{◌≢◌, zero, suc, ◌+◌, ◌%◌, ◌≤◌, ◌<◌, ◌⊎◌, ◌==◌, inl, inr, true, false, slice_range, sym, ap, ◌∙◌, arith, list_any, range_with_len, and_parts, or_parts}
+use Rattle.silt_image.proofs.Common.{eq-eqb, ne_eqb, length-between, Shape, device_size, StoredRow, is_well_formed, manifest_found, open_record, Body, SlotRecord, Damage, header_of}
+use Rattle.silt_image.proofs.Common.{header_shape, log_part, Stores, stores_of_current, stores_shaped, with_part_rows, HasStores, Finding}
+use Rattle.std.proofs.Common.{◌≡◌, ℕ, ◌*◌, List, [], ◌∷◌, length, map, Contains, Result, Ok, Err, refl}
 use Rattle.std.specs.List.{prefix_len}
 use Rattle.std.proofs.lemmas.Bool.{ltb-true, eqb-false, cases_eq, cases_order}
 use Rattle.std.proofs.lemmas.List.{ext_get_or}
@@ -42,22 +41,13 @@ same_part at count from to before after size fits low high same =
 
 -- a change outside a range leaves its bytes
 pub torn_same : (at count from len : ℕ) (before after : List ℕ) → Torn at count before after → (from + len ≤ at) ⊎ (at + count ≤ from) → SameWithin from len before after
-torn_same at count from len before after torn apart = record {
-  same = λ place low high. elim apart [
-    | inl ends ↦ torn.before place (omega (arith, ends, high))
-    | inr begins ↦ torn.after place (omega (arith, begins, low))
-  ];
-}
+torn_same at count from len before after torn apart = search (arith, torn.before, torn.after)
 
 -- ---- the regions
 
 -- the ranges of two regions of one size lie apart
 pub pieces_apart : (base i j size : ℕ) → i ≢ j → (base + i * size + size ≤ base + j * size) ⊎ (base + j * size + size ≤ base + i * size)
-pieces_apart base i j size different = elim (cases_order i j) [
-  | inl same ↦ absurd (different same)
-  | inr (inl below) ↦ let h = next_region i j size below in inl (omega (arith, h))
-  | inr (inr above) ↦ let h = next_region j i size above in inr (omega (arith, h))
-]
+pieces_apart base i j size different = search (arith, cases_order, next_region)
 
 -- the end of the regions, over plain numbers
 module _ (logs hashes log_len hash_len sorted_len : ℕ) where
@@ -100,8 +90,7 @@ log_rows_same s region before after size fits same =
     let counted : ℕ = prefix_len is_open (commit_bytes (commits_at s region) s.log_capacity before) in
     let most : counted ≤ s.log_capacity = count_most (commits_at s region) s.log_capacity before commits_fit in
     ap (λ (l : List ℕ). map (body_row (bodies_at s region) (row_len s) after) (range_with_len 0 (prefix_len is_open l))) bytes
-    ∙ map_range_same (body_row (bodies_at s region) (row_len s) after) (body_row (bodies_at s region) (row_len s) before) 0 counted
-    (λ place low high.
+    ∙ map_range_same (body_row (bodies_at s region) (row_len s) after) (body_row (bodies_at s region) (row_len s) before) 0 counted (λ place low high.
     let inside : bodies_at s region + place * row_len s + row_len s ≤ bodies_at s region + s.log_capacity * row_len s =
     body_before (bodies_at s region) (row_len s) place s.log_capacity (omega (arith, most, high)) in
     ap row_of (same_part (commits_at s region) (log_size s) (bodies_at s region + place * row_len s) (bodies_at s region + place * row_len s + row_len s) before after size
@@ -113,8 +102,7 @@ pub hash_rows_same : (s : Shape) (region : ℕ) (before after : List ℕ) → le
 unfolding hash_rows
 hash_rows_same s region before after size fits same =
     let slots_end : hash_at s region + 4 * s.buckets * row_len s ≤ hash_at s region + hash_size s = omega (arith, up_least (4 * s.buckets * row_len s)) in
-    map_range_same (body_row (hash_at s region) (row_len s) after) (body_row (hash_at s region) (row_len s) before) 0 (4 * s.buckets)
-    (λ place low high.
+    map_range_same (body_row (hash_at s region) (row_len s) after) (body_row (hash_at s region) (row_len s) before) 0 (4 * s.buckets) (λ place low high.
     let inside : hash_at s region + place * row_len s + row_len s ≤ hash_at s region + 4 * s.buckets * row_len s =
     body_before (hash_at s region) (row_len s) place (4 * s.buckets) (omega (arith, high)) in
     ap row_of (same_part (hash_at s region) (hash_size s) (hash_at s region + place * row_len s) (hash_at s region + place * row_len s + row_len s) before after size
@@ -128,8 +116,8 @@ sorted_rows_same s region count before after size room fits same =
     let at : ℕ = sorted_at s region in
     let len : ℕ = entry_len s in
     let entries_end : at + s.sorted_capacity * len ≤ at + sorted_size s = omega (arith, up_least (s.sorted_capacity * entry_len s)) in
-    map_range_same (λ place. entry_row (slice_range after (at + place * len) (at + place * len + len))) (λ place. entry_row (slice_range before (at + place * len) (at + place * len + len))) 0 count
-    (λ place low high.
+    map_range_same (λ place. entry_row (slice_range after (at + place * len) (at + place * len + len))) (λ place. entry_row (slice_range before (at + place *
+    len) (at + place * len + len))) 0 count (λ place low high.
     let inside : at + place * len + len ≤ at + s.sorted_capacity * len = body_before at len place s.sorted_capacity (omega (arith, room, high)) in
     ap entry_row (same_part at (sorted_size s) (at + place * len) (at + place * len + len) before after size
     (omega (arith, inside, entries_end, fits)) (omega arith) (omega (arith, inside, entries_end)) same))
@@ -147,12 +135,8 @@ map_same f g (x ∷ xs) same =
 -- an element of a list of numbers below a bound
 pub below_from : (n : ℕ) (ids : List ℕ) (id : ℕ) → all_below n ids ≡ true → Contains ids id → id < n
 below_from n [] id all (k, inside, here) = absurd (omega arith)
-below_from n (first ∷ ids) id all (zero, inside, here) =
-    let parts = and_parts (nat_lt first n) (all_below n ids) all in
-    omega (arith, ltb-true first n parts.0, here)
-below_from n (first ∷ ids) id all (suc k, inside, here) =
-    let parts = and_parts (nat_lt first n) (all_below n ids) all in
-    below_from n ids id parts.1 (k, omega arith, here)
+below_from n (first ∷ ids) id all (zero, inside, here) = search (arith, and_parts, ltb-true)
+below_from n (first ∷ ids) id all (suc k, inside, here) = search (arith, below_from n ids id, and_parts)
 
 -- the regions that a well-formed body names are there
 pub record NamesRegions (s : Shape) (b : Body) : Type 0 where
@@ -183,24 +167,19 @@ names_regions s slot b sound =
 hashes_same : (s : Shape) (ids : List ℕ) (before after : List ℕ) → length after ≡ length before → device_size s ≤ length before
     → ((region : ℕ) → Contains ids region → region < s.hashes) → ((region : ℕ) → Contains ids region → SameWithin (hash_at s region) (hash_size s) before after)
     → map (hash_part s after) ids ≡ map (hash_part s before) ids
-hashes_same s ids before after size fits there same =
-    map_same (hash_part s after) (hash_part s before) ids (λ region named.
+hashes_same s ids before after size fits there same = map_same (hash_part s after) (hash_part s before) ids (λ region named.
     let inside : hash_at s region + hash_size s ≤ device_size s = hash_fits s.logs s.hashes (log_size s) (hash_size s) (sorted_size s) region (there region named) in
     ap (λ (rows : List StoredRow). record { region = region; rows = rows }) (hash_rows_same s region before after size (omega (arith, inside, fits)) (same region named)))
 
 -- the same entries
 entries_same : (s : Shape) (region count : ℕ) (before after : List ℕ) → length after ≡ length before → device_size s ≤ length before → region < 2
     → count ≤ s.sorted_capacity → SameWithin (sorted_at s region) (sorted_size s) before after → sorted_rows s region count after ≡ sorted_rows s region count before
-entries_same s region count before after size fits there room same =
-    let inside : sorted_at s region + sorted_size s ≤ device_size s = sorted_end s.logs s.hashes (log_size s) (hash_size s) (sorted_size s) region there in
-    sorted_rows_same s region count before after size room (omega (arith, inside, fits)) same
+entries_same s region count before after size fits there room same = search (arith, sorted_end, sorted_rows_same)
 
 -- the same rows of a log
 log_same : (s : Shape) (region : ℕ) (before after : List ℕ) → length after ≡ length before → device_size s ≤ length before
     → region < s.logs → SameWithin (commits_at s region) (log_size s) before after → log_rows s region after ≡ log_rows s region before
-log_same s region before after size fits there same =
-    let inside : commits_at s region + log_size s ≤ device_size s = log_fits s.logs s.hashes (log_size s) (hash_size s) (sorted_size s) region there in
-    log_rows_same s region before after size (omega (arith, inside, fits)) same
+log_same s region before after size fits there same = search (arith, log_fits, log_rows_same)
 
 -- stores of one shape and body whose parts are the same
 named_from : (s : Shape) (b : Body) (before after : List ℕ) → map (log_part s after) (b.active ∷ b.frozen) ≡ map (log_part s before) (b.active ∷ b.frozen)
@@ -213,11 +192,9 @@ named_from s b before after logs hashes entries = cc
 pub stores_named_same : (s : Shape) (b : Body) (before after : List ℕ) → NamesRegions s b → length after ≡ length before
     → device_size s ≤ length before → SameRegions s b before after → stores_named s b after ≡ stores_named s b before
 stores_named_same s b before after there size fits same =
-    named_from s b before after
-    (map_same (log_part s after) (log_part s before) (b.active ∷ b.frozen)
-    (λ region named. ap (λ (rows : List StoredRow). record { region = region; rows = rows }) (log_same s region before after size fits (there.logs region named) (same.logs region named))))
-    (hashes_same s b.hashed before after size fits there.hashes same.hashes)
-    (entries_same s b.sorted b.sorted_count before after size fits there.sorted there.sorted_count same.sorted)
+    named_from s b before after (map_same (log_part s after) (log_part s before) (b.active ∷ b.frozen) (λ region named. ap (λ (rows : List StoredRow).
+    record { region = region; rows = rows }) (log_same s region before after size fits (there.logs region named) (same.logs region named)))) (hashes_same s
+    b.hashed before after size fits there.hashes same.hashes) (search (arith, entries_same))
 
 -- ---- the manifest
 
@@ -230,9 +207,8 @@ same_manifest s before after header first second = cc
 manifest_before : (s : Shape) (at count : ℕ) (before after : List ℕ) → 12288 ≤ at → 12288 ≤ length before → header_of after ≡ header_of before
     → Torn at count before after → manifest_found s after ≡ manifest_found s before
 manifest_before s at count before after low long header torn =
-    same_manifest s before after header
-    (ap record_behind (torn_slice_before at count before after torn (slot_at 0) (slot_at 0 + 461) (omega arith) (omega arith)))
-    (ap record_behind (torn_slice_before at count before after torn (slot_at 1) (slot_at 1 + 461) (omega arith) (omega arith)))
+    same_manifest s before after header (ap record_behind (torn_slice_before at count before after torn (slot_at 0) (slot_at 0 + 461) (omega arith) (omega
+    arith))) (ap record_behind (torn_slice_before at count before after torn (slot_at 1) (slot_at 1 + 461) (omega arith) (omega arith)))
 
 -- ---- the frame
 
@@ -245,16 +221,16 @@ frame_regions before after shape body agree stores = agree.regions (stores_named
 frame_of_current : (shape : Shape) (before after : List ℕ) → Agree before after → shape_found (length before) (header_of before) ≡ Ok shape
     → stores_of_current shape after (manifest_found shape before) ≡ stores_of_current shape before (manifest_found shape before)
 unfolding image_stores
-frame_of_current shape before after agree has_shape = go (manifest_found shape before) refl
+frame_of_current shape before after agree has_shape = go _ refl
   where
     go : (r : Result SlotRecord Damage) → manifest_found shape before ≡ r → stores_of_current shape after r ≡ stores_of_current shape before r
     go (Err damaged) has = refl
     go (Ok found) has =
         let body : Body = found.body in
-        let stores : image_stores before ≡ Ok (stores_named shape body before) = ap (stores_shaped before) has_shape ∙ ap (stores_of_current shape before) has in
-        let shaped = shape_parts (length before) (header_of before) shape has_shape in
-        let same : SameRegions shape body before after = frame_regions before after shape body agree stores in
-        ap Ok (stores_named_same shape body before after (names_regions shape (body.generation % 2) body (current_sound shape before found has)) agree.size (omega (arith, shaped.size)) same)
+        let stores : image_stores before ≡ Ok (stores_named shape body before) = cc in
+        let shaped = shape_parts _ _ shape has_shape in
+        let same = frame_regions before after shape body agree stores in
+        ap Ok (stores_named_same shape body before after (names_regions shape _ body (current_sound shape before found has)) agree.size (omega (arith, shaped.size)) same)
 
 frame_shaped : (before after : List ℕ) → Agree before after → (r : Result Shape Finding) → shape_found (length before) (header_of before) ≡ r → stores_shaped after r ≡ stores_shaped before r
 frame_shaped before after agree (Err finding) has = refl
@@ -277,14 +253,7 @@ frame_law before after agree = (frame_stores before after agree, frame_digests b
 -- images with the same stores and the same digests in their manifests have the same meaning
 pub meaning_law : MeaningLaw
 unfolding image_verdict image_stands image_fits image_rows image_map image_charge
-meaning_law before after same said = record {
-  verdict = ap (λ r. slice_get (findings_of (image_digests after) r) 0) same ∙ ap (λ (d : Option Digests). slice_get (findings_of d (image_stores before)) 0) said;
-  stands = ap (map_where_sound (image_digests after)) same ∙ ap (λ (d : Option Digests). map_where_sound d (image_stores before)) said;
-  fits = ap all_logs_fit same;
-  rows = ap rows_found same;
-  map = ap (λ r. map_of_rows (rows_found r)) same;
-  charge = ap (λ r. put_count (rows_found r)) same;
-}
+meaning_law before after same said = search arith
 
 -- ---- changes
 
@@ -292,14 +261,14 @@ meaning_law before after same said = record {
 pub stores_after : (at count : ℕ) (before after : List ℕ) (s other : Stores) → HasStores s before → 12288 ≤ at → Torn at count before after
     → other.shape ≡ s.shape → other.body ≡ s.body → other ≡ stores_named s.shape s.body after → image_stores after ≡ Ok other
 stores_after at count before after s other has low torn shape body named =
-    let shaped = shape_parts (length before) (header_of before) s.shape has.shape in
+    let shaped = shape_parts _ _ _ has.shape in
     let long : 12288 ≤ length before = omega (arith, shaped.size) in
-    let header : header_of after ≡ header_of before = torn_slice_before at count before after torn 0 37 (omega arith) (omega arith) in
+    let header = torn_slice_before at count before after torn 0 37 (omega arith) (omega arith) in
     (stores_law after other).1 (record {
-      shape = ap (λ (n : ℕ). shape_found n (header_of after)) torn.size ∙ ap (shape_found (length before)) header ∙ has.shape ∙ ap Ok (sym shape);
+      shape = cc (torn.size, has.shape);
       digests = has.digests;
-      current = ap (λ t. manifest_found t after) shape ∙ manifest_before s.shape at count before after low long header torn ∙ has.current ∙ ap (λ b. Ok (record_with has.digests b)) (sym body);
-      named = named ∙ ap (λ t. stores_named t s.body after) (sym shape) ∙ ap (λ b. stores_named other.shape b after) (sym body);
+      current = cc (manifest_before s.shape at count before after low long header torn, has.current);
+      named = cc;
     })
 
 -- the regions of an image with stores
@@ -314,8 +283,7 @@ log_after s region id before after torn fits there = elim (cases_eq id region) [
       cc (takes_rows region (log_rows s region after) (log_part s before id) (eq-eqb id region is))
   | inr other ↦
       keeps_rows region (log_rows s region after) (log_part s before id) (ne_eqb id region other)
-      ∙ ap (λ (rows : List StoredRow). record { region = id; rows = rows })
-      (sym (log_same s id before after torn.size fits there
+      ∙ ap (λ (rows : List StoredRow). record { region = id; rows = rows }) (sym (log_same s id before after torn.size fits there
       (torn_same (commits_at s region) (log_size s) (commits_at s id) (log_size s) before after torn (pieces_apart 12288 id region (log_size s) other))))
 ]
 
@@ -325,7 +293,7 @@ logs_after : (s : Shape) (region : ℕ) (ids : List ℕ) (before after : List �
     → map (with_part_rows region (log_rows s region after)) (map (log_part s before) ids) ≡ map (log_part s after) ids
 logs_after s region [] before after torn fits there = refl
 logs_after s region (id ∷ ids) before after torn fits there =
-    let first : with_part_rows region (log_rows s region after) (log_part s before id) ≡ log_part s after id = log_after s region id before after torn fits (there id (0, omega arith, refl)) in
+    let first = log_after s region id before after torn fits (there id (0, omega arith, refl)) in
     let rest = logs_after s region ids before after torn fits (λ other (k, below, here). there other (suc k, omega arith, here)) in
     cc
 
@@ -335,14 +303,12 @@ log_changed : (s : Shape) (b : Body) (region : ℕ) (before after : List ℕ) �
 unfolding with_log_rows stores_named
 log_changed s b region before after there torn fits below =
     let logs = logs_after s region (b.active ∷ b.frozen) before after torn fits there.logs in
-    let hashes : map (hash_part s before) b.hashed ≡ map (hash_part s after) b.hashed =
-    sym (hashes_same s b.hashed before after torn.size fits there.hashes
-    (λ id named. torn_same (commits_at s region) (log_size s) (hash_at s id) (hash_size s) before after torn
-    (inr (log_before_hash s.logs s.hashes (log_size s) (hash_size s) (sorted_size s) region id below)))) in
-    let entries : sorted_rows s b.sorted b.sorted_count before ≡ sorted_rows s b.sorted b.sorted_count after =
-    sym (entries_same s b.sorted b.sorted_count before after torn.size fits there.sorted there.sorted_count
-    (torn_same (commits_at s region) (log_size s) (sorted_at s b.sorted) (sorted_size s) before after torn
-    (inr (log_before_sorted s.logs s.hashes (log_size s) (hash_size s) (sorted_size s) region b.sorted below)))) in
+    let hashes : map (hash_part s before) b.hashed ≡ map (hash_part s after) b.hashed = sym (hashes_same s b.hashed before after torn.size fits there.hashes (λ
+    id named. torn_same (commits_at s region) (log_size s) (hash_at s id) (hash_size s) before after torn (inr (log_before_hash s.logs s.hashes (log_size s)
+    (hash_size s) (sorted_size s) region id below)))) in
+    let entries : sorted_rows s b.sorted b.sorted_count before ≡ sorted_rows s b.sorted b.sorted_count after = sym (entries_same s b.sorted b.sorted_count
+    before after torn.size fits there.sorted there.sorted_count (torn_same (commits_at s region) (log_size s) (sorted_at s b.sorted) (sorted_size s) before
+    after torn (inr (log_before_sorted s.logs s.hashes (log_size s) (hash_size s) (sorted_size s) region b.sorted below)))) in
     cc
 
 -- other rows leave the shape and the body
@@ -358,11 +324,11 @@ body_stays region rows s = refl
 pub log_region_law : LogRegionLaw
 log_region_law before after s region e below torn =
     let has = (stores_law before s).0 e in
-    let shaped = shape_parts (length before) (header_of before) s.shape has.shape in
+    let shaped = shape_parts _ _ _ has.shape in
     let rows : List StoredRow = log_rows s.shape region after in
     let changed : with_log_rows region rows s ≡ stores_named s.shape s.body after =
-    ap (with_log_rows region rows) has.named ∙ log_changed s.shape s.body region before after (stores_regions before s has) torn (omega (arith, shaped.size)) below in
-    stores_after (commits_at s.shape region) (log_size s.shape) before after s (with_log_rows region rows s) has (omega arith) torn (shape_stays region rows s) (body_stays region rows s) changed
+    ap (with_log_rows region rows) has.named ∙ log_changed _ s.body region before after (stores_regions before s has) torn (omega (arith, shaped.size)) below in
+    stores_after _ _ before after s _ has (omega arith) torn (shape_stays region rows s) (body_stays region rows s) changed
 
 -- stores that a change leaves
 unchanged : (at count : ℕ) (before after : List ℕ) (s : Stores) → image_stores before ≡ Ok s → 12288 ≤ at → Torn at count before after
@@ -376,12 +342,8 @@ unchanged at count before after s e low torn same =
 -- a number that a list does not have is none of its elements
 other_than : (region : ℕ) (ids : List ℕ) (id : ℕ) → list_any (λ other. other == region) ids ≡ false → Contains ids id → id ≢ region
 other_than region [] id none (k, inside, here) is = absurd (omega arith)
-other_than region (first ∷ ids) id none (zero, inside, here) is =
-    let both = or_parts (first == region) (list_any (λ other. other == region) ids) none in
-    eqb-false first region both.0 (omega (arith, here, is))
-other_than region (first ∷ ids) id none (suc k, inside, here) is =
-    let both = or_parts (first == region) (list_any (λ other. other == region) ids) none in
-    other_than region ids id both.1 (k, omega arith, here) is
+other_than region (first ∷ ids) id none (zero, inside, here) is = search (arith, or_parts, eqb-false)
+other_than region (first ∷ ids) id none (suc k, inside, here) is = search (arith, other_than region ids id, or_parts)
 
 -- a change in a hash region that the body does not name changes nothing
 pub free_hash_law : FreeHashLaw
@@ -391,11 +353,10 @@ free_hash_law before after s region e below free torn =
     let sh = s.shape in
     unchanged (hash_at sh region) (hash_size sh) before after s e (omega arith) torn (record {
       logs = λ id named. torn_same (hash_at sh region) (hash_size sh) (commits_at sh id) (log_size sh) before after torn
-          (inl (log_before_hash sh.logs sh.hashes (log_size sh) (hash_size sh) (sorted_size sh) id region (there.logs id named)));
-      hashes = λ id named. torn_same (hash_at sh region) (hash_size sh) (hash_at sh id) (hash_size sh) before after torn
-          (pieces_apart (12288 + sh.logs * log_size sh) id region (hash_size sh) (other_than region s.body.hashed id free named));
+          (inl (search (arith, log_before_hash, there.logs)));
+      hashes = search (arith, torn_same, pieces_apart, other_than);
       sorted = torn_same (hash_at sh region) (hash_size sh) (sorted_at sh s.body.sorted) (sorted_size sh) before after torn
-          (inr (hash_before_sorted sh.logs sh.hashes (log_size sh) (hash_size sh) (sorted_size sh) region s.body.sorted below));
+          (inr (search (arith, hash_before_sorted)));
     })
 
 -- nor does one in the sorted region that the body does not name
@@ -404,13 +365,10 @@ free_sorted_law before after s region e below other torn =
     let has = (stores_law before s).0 e in
     let there = stores_regions before s has in
     let sh = s.shape in
-    unchanged (sorted_at sh region) (sorted_size sh) before after s e (omega arith) torn (record {
-      logs = λ id named. torn_same (sorted_at sh region) (sorted_size sh) (commits_at sh id) (log_size sh) before after torn
-          (inl (log_before_sorted sh.logs sh.hashes (log_size sh) (hash_size sh) (sorted_size sh) id region (there.logs id named)));
-      hashes = λ id named. torn_same (sorted_at sh region) (sorted_size sh) (hash_at sh id) (hash_size sh) before after torn
-          (inl (hash_before_sorted sh.logs sh.hashes (log_size sh) (hash_size sh) (sorted_size sh) id region (there.hashes id named)));
-      sorted = torn_same (sorted_at sh region) (sorted_size sh) (sorted_at sh s.body.sorted) (sorted_size sh) before after torn
-          (pieces_apart (12288 + sh.logs * log_size sh + sh.hashes * hash_size sh) s.body.sorted region (sorted_size sh) (λ is. other (sym is)));
+    unchanged _ _ before after s e (omega arith) torn (record {
+      logs = λ id named. torn_same _ _ _ _ before after torn (inl (log_before_sorted _ _ _ _ _ id region (there.logs id named)));
+      hashes = λ id named. torn_same _ _ _ _ before after torn (inl (hash_before_sorted _ _ _ _ _ id region (there.hashes id named)));
+      sorted = torn_same _ _ _ _ before after torn (pieces_apart _ _ region _ (λ is. other (sym is)));
     })
 
 -- after a change in a manifest slot the stores are those that the new current body names
@@ -423,13 +381,9 @@ manifest_law before after s slot found e below torn is_current =
     let shaped = shape_parts (length before) (header_of before) sh has.shape in
     let header : header_of after ≡ header_of before = torn_slice_before (slot_at slot) 4096 before after torn 0 37 (omega arith) (omega (arith, shaped.size)) in
     let there = names_regions sh (body.generation % 2) body (current_sound sh after found is_current) in
-    let same : SameRegions sh body before after = record {
-      logs = λ id named. torn_same (slot_at slot) 4096 (commits_at sh id) (log_size sh) before after torn (inr (omega arith));
-      hashes = λ id named. torn_same (slot_at slot) 4096 (hash_at sh id) (hash_size sh) before after torn (inr (omega arith));
-      sorted = torn_same (slot_at slot) 4096 (sorted_at sh body.sorted) (sorted_size sh) before after torn (inr (omega arith));
-    } in
+    let same : SameRegions sh body before after = search (arith, torn_same) in
     (stores_law after (stores_named sh body before)).1 (record {
-      shape = ap (λ (n : ℕ). shape_found n (header_of after)) torn.size ∙ ap (shape_found (length before)) header ∙ has.shape;
+      shape = cc (torn.size, has.shape);
       digests = found.digests;
       current = is_current;
       named = sym (stores_named_same sh body before after there torn.size (omega (arith, shaped.size)) same);
@@ -443,5 +397,4 @@ freeze_named sh old next image freezes none = cc (freezes.frozen, freezes.hashed
 
 -- a body that freezes the active log names the stores with a new log in front
 pub freeze_law : FreezeLaw
-freeze_law image s next e freezes none =
-    freeze_named s.shape s.body next image freezes none ∙ ap (with_new_log next) (sym ((stores_law image s).0 e).named)
+freeze_law image s next e freezes none = freeze_named s.shape s.body next image freezes none ∙ ap (with_new_log next) (sym ((stores_law image s).0 e).named)

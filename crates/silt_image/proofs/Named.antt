@@ -1,71 +1,26 @@
 -- What an image with stores has.
-use Rattle.silt_image.proofs.Common.{◌⊎◌, inl, inr, ◌%◌, ◌≤◌, ◌==◌, Bool, true, false, not, nat_le, nat_lt, ◌&&◌, if◌then◌else◌, slice_range, sym, ap, ◌∙◌, arith, list_any, and_parts}
-use Rattle.silt_image.proofs.Common.{length-between, bytes_eq-Decides, Shape, InLimits, device_size, is_well_formed, manifest_found, open_record, Body, Digests, SlotRecord, Damage, header_of}
-use Rattle.silt_image.proofs.Common.{header_shape, is_formatted, is_in_limits, magic, Part, log_part, Stores, stores_of_current, stores_shaped, HasStores, Finding, NotFormatted, Damaged, Header}
-use Rattle.silt_image.proofs.Common.{Length}
-use Rattle.std.proofs.Common.{◌≡◌, ℕ, ◌*◌, ◌||◌, List, [], ◌∷◌, length, map, Option, Some, None, Result, Ok, Err, refl}
-use Rattle.std.proofs.lemmas.Bool.{not-true, eqb-true}
-use Rattle.std.proofs.lemmas.Bool.Decides.{nat_tests}
-use Rattle.silt_manifest.specs.Current.{record_found, greater_record, has_due_digests, is_sound_record}
+use Rattle.std.proofs.lemmas.Bool.{le-leb, leb-true, not-true, eqb-true}
+use Rattle.silt_image.proofs.Common.{◌⊎◌, ◌%◌, ◌≤◌, ◌==◌, Bool, true, false, not, nat_le, ◌&&◌, if◌then◌else◌, sym, ap, ◌∙◌, list_any, and_parts, length-between, bytes_eq-Decides, Shape}
+use Rattle.silt_image.proofs.Common.{InLimits, device_size, is_well_formed, manifest_found, open_record, Body, Digests, SlotRecord, Damage, header_of, header_shape, is_formatted}
+use Rattle.silt_image.proofs.Common.{is_in_limits, Part, log_part, Stores, stores_of_current, stores_shaped, HasStores, Finding, NotFormatted, Damaged, Header, Length}
+use Rattle.std.proofs.Common.{◌≡◌, ℕ, ◌||◌, List, [], ◌∷◌, length, map, Option, Some, None, Result, Ok, Err, refl, arith}
+use Rattle.silt_manifest.specs.Current.{record_found, greater_record, is_sound_record}
 use Rattle.silt_manifest.specs.declared.slot.Damage.TheVariants as damage
 use Rattle.silt_manifest.proofs.SoundBodies.{own_slot}
-use Rattle.silt_disk.specs.Header.{IsHeader, version_number, version_of}
+use Rattle.silt_disk.specs.Header.{IsHeader, version_of}
 use Rattle.silt_disk.specs.declared.header.Version.{Version}
 use Rattle.silt_image.specs.Stores.{digests_found, image_digests, image_stores, shape_found, stores_named}
 use Rattle.silt_image.specs.Laws.{DigestsLaw, LimitsLaw, StoresLaw, WholeLaw}
 
 -- ---- the header
 
--- a test of order that succeeds
-at_most : (a b : ℕ) → nat_le a b ≡ true → a ≤ b
-at_most a b is = grind (arith, nat_tests)
-
 -- the test of the limits, taken apart
 limits_of : (s : Shape) → is_in_limits s ≡ true → InLimits s
-limits_of s is =
-    let p1 = and_parts _ _ is in
-    let p2 = and_parts _ _ p1.0 in
-    let p3 = and_parts _ _ p2.0 in
-    let p4 = and_parts _ _ p3.0 in
-    let p5 = and_parts _ _ p4.0 in
-    let p6 = and_parts _ _ p5.0 in
-    let p7 = and_parts _ _ p6.0 in
-    let p8 = and_parts _ _ p7.0 in
-    let p9 = and_parts _ _ p8.0 in
-    let p10 = and_parts _ _ p9.0 in
-    record {
-      value_len_least = at_most _ _ p10.0;
-      value_len_most = at_most _ _ p10.1;
-      buckets = p9.1;
-      log_capacity_least = at_most _ _ p8.1;
-      log_capacity_most = at_most _ _ p7.1;
-      logs_least = at_most _ _ p6.1;
-      logs_most = at_most _ _ p5.1;
-      hashes_least = at_most _ _ p4.1;
-      hashes_most = at_most _ _ p3.1;
-      sorted_capacity_least = at_most _ _ p2.1;
-      sorted_capacity_most = at_most _ _ p1.1;
-    }
-
--- the order, as its test
-pub test_at_most : (a b : ℕ) → a ≤ b → nat_le a b ≡ true
-test_at_most a b is = grind (arith, nat_tests)
+limits_of s is = search (arith, and_parts, leb-true)
 
 -- and put together
 in_limits : (s : Shape) → InLimits s → is_in_limits s ≡ true
-in_limits s limits = cc (
-  test_at_most 1 s.value_len limits.value_len_least,
-  test_at_most s.value_len 4096 limits.value_len_most,
-  limits.buckets,
-  test_at_most 1 s.log_capacity limits.log_capacity_least,
-  test_at_most s.log_capacity (4 * s.buckets) limits.log_capacity_most,
-  test_at_most 2 s.logs limits.logs_least,
-  test_at_most s.logs 8 limits.logs_most,
-  test_at_most 1 s.hashes limits.hashes_least,
-  test_at_most s.hashes 16 limits.hashes_most,
-  test_at_most 1 s.sorted_capacity limits.sorted_capacity_least,
-  test_at_most s.sorted_capacity 16777216 limits.sorted_capacity_most,
-)
+in_limits s limits = search (arith, le-leb)
 
 -- the test of the limits decides them
 pub limits_law : LimitsLaw
@@ -96,7 +51,7 @@ shape_parts len header shape e =
     let front = and_parts (nat_le 37 len) (is_formatted header) all.0 in
     let size : len ≡ device_size (header_shape header) = eqb-true len (device_size (header_shape header)) all.2 in
     record {
-      long = at_most 37 len front.0;
+      long = leb-true 37 len front.0;
       formatted = front.1;
       limits = limits_of shape (ap is_in_limits (sym all.3) ∙ all.1);
       size = size ∙ ap (λ (s : Shape). device_size s) all.3;
@@ -105,42 +60,29 @@ shape_parts len header shape e =
 
 -- a number of one of the two versions
 version_is : (n : ℕ) → ((n == 1) || (n == 2)) ≡ true → (n ≡ 1) ⊎ (n ≡ 2)
-version_is n is = go (n == 1) refl is
-  where
-    go : (b : Bool) → (n == 1) ≡ b → (b || (n == 2)) ≡ true → (n ≡ 1) ⊎ (n ≡ 2)
-    go true first is = inl (eqb-true n 1 first)
-    go false other is = inr (eqb-true n 2 is)
+version_is n is = search (arith, eqb-true)
 
 -- the bytes of a header that is formatted
 pub header_is : (header : List ℕ) → length header ≡ 37 → is_formatted header ≡ true → IsHeader header
-header_is header long formatted =
-    let front = and_parts _ _ formatted in
-    let commit = and_parts _ _ front.0 in
-    record {
-      whole = long;
-      commit = eqb-true _ 167 commit.0;
-      magic = (bytes_eq-Decides (slice_range header 1 9) magic).0 commit.1;
-      version = version_is (version_number header) front.1;
-    }
+header_is header long formatted = search (arith, formatted, and_parts, eqb-true, bytes_eq-Decides, version_is)
 
 -- ---- the manifest
 
 -- the body of a sound record is well formed
 sound_body : (s : Shape) (version : Version) (slot : ℕ) (held found : SlotRecord) → is_sound_record s version slot (Some held) ≡ true → held ≡ found → is_well_formed s slot found.body ≡ true
-sound_body s version slot held found sound same =
-    ap (λ (r : SlotRecord). is_well_formed s slot r.body) (sym same) ∙ (and_parts (has_due_digests version held.digests) (is_well_formed s slot held.body) sound).1
+sound_body s version slot held found sound same = search (arith, and_parts)
 
 -- the record of greater generation is one of the two
 greater_sound : (s : Shape) (version : Version) (first second : Option SlotRecord) (found : SlotRecord) → is_sound_record s version 0 first ≡ true
     → is_sound_record s version 1 second ≡ true → greater_record first second ≡ Ok found → (slot : ℕ) × (is_well_formed s slot found.body ≡ true)
 greater_sound s version None None found s0 s1 e = absurd (cc)
-greater_sound s version None (Some b) found s0 s1 e = (1, sound_body s version 1 b found s1 (cc))
-greater_sound s version (Some a) None found s0 s1 e = (0, sound_body s version 0 a found s0 (cc))
-greater_sound s version (Some a) (Some b) found s0 s1 e = go (nat_lt a.body.generation b.body.generation) e
+greater_sound s version None (Some b) found s0 s1 e = (1, sound_body s _ 1 b found s1 (cc))
+greater_sound s version (Some a) None found s0 s1 e = (0, sound_body s _ 0 a found s0 (cc))
+greater_sound s version (Some a) (Some b) found s0 s1 e = go _ e
   where
     go : (newer : Bool) → (let greater : Result SlotRecord Damage = Ok (if newer then b else a) in greater ≡ Ok found) → (slot : ℕ) × (is_well_formed s slot found.body ≡ true)
-    go true e = (1, sound_body s version 1 b found s1 (cc))
-    go false e = (0, sound_body s version 0 a found s0 (cc))
+    go true e = (1, sound_body s _ 1 b found s1 (cc))
+    go false e = (0, sound_body s _ 0 a found s0 (cc))
 
 -- the two tests of the slots
 abbrev pub both_sound_found : Bool → Bool → Result SlotRecord Damage → Result SlotRecord Damage
@@ -214,8 +156,7 @@ any_part shape image region (id ∷ ids) = ap (λ rest. (id == region) || rest) 
 
 -- the active log is not among the frozen ones
 pub apart_of : (s : Shape) (slot : ℕ) (b : Body) → is_well_formed s slot b ≡ true → list_any (λ id. id == b.active) b.frozen ≡ false
-apart_of s slot b sound =
-    not-true _ (and_parts _ _ (and_parts _ _ (and_parts _ _ (and_parts _ _ (and_parts _ _ (and_parts _ _ sound).0).0).0).1).0).1
+apart_of s slot b sound = not-true _ (and_parts _ _ (and_parts _ _ (and_parts _ _ (and_parts _ _ (and_parts _ _ (and_parts _ _ sound).0).0).0).1).0).1
 
 -- the logs of named stores
 logs_named : (shape : Shape) (body : Body) (image : List ℕ) → (stores_named shape body image).logs ≡ map (log_part shape image) (body.active ∷ body.frozen)

@@ -1,7 +1,7 @@
 -- The first finding, as a search comes upon it.
-use Rattle.silt_image.proofs.Common.{zero, suc, ◌+◌, ◌≤◌, Bool, true, not, flat_map, slice_get, ap, ◌∙◌, arith, false, list_all, enumerate_from, and_parts, Shape, has_known_kind, StoredRow, Part}
-use Rattle.silt_image.proofs.Common.{image_digests, charge_findings, charge_of, said_entry_findings, said_hash_findings, finding_if, fits_table, row_findings, Finding, Damaged, Crowded, Log, Charge}
-use Rattle.silt_image.proofs.Common.{fits_take, nothing_both, nothing_where_passes}
+use Rattle.silt_image.proofs.Common.{zero, suc, ◌+◌, ◌≤◌, true, flat_map, slice_get, ap, ◌∙◌, arith, false, list_all, enumerate_from, and_parts, Shape, has_known_kind, StoredRow, Part}
+use Rattle.silt_image.proofs.Common.{image_digests, charge_findings, said_entry_findings, said_hash_findings, fits_table, row_findings, Finding, Damaged, Crowded, Charge, fits_take}
+use Rattle.silt_image.proofs.Common.{nothing_both, nothing_where_passes}
 use Rattle.std.proofs.Common.{◌≡◌, ℕ, List, [], ◌∷◌, ◌++◌, take, length, Some}
 use Rattle.std.proofs.lemmas.Bool.{lt-ltb}
 use Rattle.std.proofs.lemmas.List.{take-take}
@@ -27,19 +27,9 @@ first_row : (shape : Shape) (part : Part) (k n : ℕ) (rows : List StoredRow) (r
     → ((m : ℕ) → m ≤ k + n → fits_table shape (take m part.rows) ≡ true) → slice_get (row_findings shape part (k + n, row)) 0 ≡ Some finding
     → slice_get (flat_map (row_findings shape part) (enumerate_from k rows)) 0 ≡ Some finding
 first_row shape part k n [] row finding there known fits found = absurd (cc)
-first_row shape part k zero (first ∷ rows) row finding there known fits found =
-    let same : first ≡ row = cc in
-    let here : k + 0 ≡ k = omega arith in
-    first_of_front (row_findings shape part (k, first)) (flat_map (row_findings shape part) (enumerate_from (k + 1) rows)) finding (rw (same, ← here) found)
+first_row shape part k zero (first ∷ rows) row finding there known fits found = search (arith, first_of_front)
 first_row shape part k (suc n) (first ∷ rows) row finding there known fits found =
-    let parts = and_parts (has_known_kind first) (list_all has_known_kind (take n rows)) known in
-    let next : k + suc n ≡ k + 1 + n = omega arith in
-    let none : row_findings shape part (k, first) ≡ [] =
-    nothing_both (finding_if (not (has_known_kind first)) (Damaged (Log part.region k))) (finding_if (not (fits_table shape (take (k + 1) part.rows))) Crowded)
-    (nothing_where_passes (has_known_kind first) (Damaged (Log part.region k)) parts.0)
-    (nothing_where_passes (fits_table shape (take (k + 1) part.rows)) Crowded (fits (k + 1) (omega arith))) in
-    first_behind (row_findings shape part (k, first)) (flat_map (row_findings shape part) (enumerate_from (k + 1) rows)) finding none
-    (first_row shape part (k + 1) n rows row finding there parts.1 (λ m most. fits m (omega arith)) (rw next at found))
+    search (arith, first_row shape part (k + 1) n rows row finding there, and_parts, nothing_both, nothing_where_passes, first_behind)
 
 -- the first finding of a log
 pub first_in_log : (shape : Shape) (part : Part) (place : ℕ) (row : StoredRow) (finding : Finding) → FirstFinding shape part place row finding → slice_get (log_findings shape part) 0 ≡ Some finding
@@ -57,15 +47,11 @@ unfolding store_findings
 first_finding_law image s before after part place row finding e logs none first =
     let found = first_in_log s.shape part place row finding first in
     let rest : List Finding = flat_map (log_findings s.shape) after in
-    let in_logs : slice_get (flat_map (log_findings s.shape) s.logs) 0 ≡ Some finding =
-    ap (λ l. slice_get l 0) (ap (flat_map (log_findings s.shape)) logs ∙ flat_map-append (log_findings s.shape) before (part ∷ after))
-    ∙ first_behind (flat_map (log_findings s.shape) before) (log_findings s.shape part ++ rest) finding none (first_of_front (log_findings s.shape part) rest finding found) in
+    let in_logs : slice_get (flat_map (log_findings s.shape) s.logs) 0 ≡ Some finding = search (arith, flat_map-append, first_behind, first_of_front) in
     let hashes : List Finding = flat_map (said_hash_findings s.shape (image_digests image)) (enumerate_from 0 s.hashes) in
     let entries : List Finding = said_entry_findings (image_digests image) s.entries in
     verdict_of image s e
-    ∙ first_of_front (flat_map (log_findings s.shape) s.logs ++ hashes ++ entries) (charge_findings s) finding
-    (first_of_front (flat_map (log_findings s.shape) s.logs ++ hashes) entries finding
-    (first_of_front (flat_map (log_findings s.shape) s.logs) hashes finding in_logs))
+    ∙ first_of_front (flat_map (log_findings s.shape) s.logs ++ hashes ++ entries) (charge_findings s) finding (search (arith, first_of_front))
 
 -- and in one of a known kind without a place
 crowded_row : (shape : Shape) (part : Part) (place : ℕ) (row : StoredRow) → has_known_kind row ≡ true → fits_table shape (take (place + 1) part.rows) ≡ false
@@ -75,9 +61,7 @@ crowded_row shape part place row known crowded = cc
 -- the places of two lists, one behind the other
 pub places_append : (k : ℕ) (xs ys : List Part) → enumerate_from k (xs ++ ys) ≡ enumerate_from k xs ++ enumerate_from (k + length xs) ys
 places_append k [] ys = let here : k + 0 ≡ k = omega arith in rw here
-places_append k (x ∷ xs) ys =
-    let next : k + 1 + length xs ≡ k + suc (length xs) = omega arith in
-    cc (places_append (k + 1) xs ys)
+places_append k (x ∷ xs) ys = search (arith, places_append (k + 1) xs ys)
 
 -- so is that in the first hash store that has one
 pub first_slot_law : FirstSlotLaw
@@ -90,14 +74,10 @@ first_slot_law image s before after part finding e logs hashes none found =
     let entries : List Finding = said_entry_findings said s.entries in
     let start : 0 + length before ≡ length before = omega arith in
     let places : enumerate_from 0 s.hashes ≡ enumerate_from 0 before ++ (length before, part) ∷ enumerate_from (length before + 1) after =
-    ap (enumerate_from 0) hashes ∙ places_append 0 before (part ∷ after) ∙ ap (λ (n : ℕ). enumerate_from 0 before ++ enumerate_from n (part ∷ after)) start in
-    let in_hashes : slice_get all 0 ≡ Some finding =
-    ap (λ l. slice_get l 0) (cc (flat_map-append (said_hash_findings s.shape said) (enumerate_from 0 before) ((length before, part) ∷ enumerate_from (length before + 1) after)))
-    ∙ first_behind (flat_map (said_hash_findings s.shape said) (enumerate_from 0 before)) (own ++ rest) finding none (first_of_front own rest finding found) in
+    search (arith, places_append) in
+    let in_hashes : slice_get all 0 ≡ Some finding = search (arith, flat_map-append, first_behind, first_of_front) in
     verdict_of image s e
-    ∙ first_of_front (flat_map (log_findings s.shape) s.logs ++ all ++ entries) (charge_findings s) finding
-    (first_of_front (flat_map (log_findings s.shape) s.logs ++ all) entries finding
-    (first_behind (flat_map (log_findings s.shape) s.logs) all finding logs in_hashes))
+    ∙ first_of_front (flat_map (log_findings s.shape) s.logs ++ all ++ entries) (charge_findings s) finding (search (arith, first_of_front, first_behind))
 
 -- so is that in the sorted store
 pub first_entry_law : FirstEntryLaw
@@ -105,10 +85,7 @@ unfolding store_findings
 first_entry_law image s finding e logs hashes found =
     let all : List Finding = flat_map (said_hash_findings s.shape (image_digests image)) (enumerate_from 0 s.hashes) in
     let entries : List Finding = said_entry_findings (image_digests image) s.entries in
-    verdict_of image s e
-    ∙ first_of_front (flat_map (log_findings s.shape) s.logs ++ all ++ entries) (charge_findings s) finding
-    (first_behind (flat_map (log_findings s.shape) s.logs ++ all) entries finding
-    (nothing_both (flat_map (log_findings s.shape) s.logs) all logs hashes) found)
+    verdict_of image s e ∙ first_of_front _ _ _ (first_behind _ _ _ (nothing_both _ all logs hashes) found)
 
 -- if there is no other finding, and there are more puts than the store may hold, that is the verdict
 pub charge_found_law : ChargeFoundLaw
@@ -117,7 +94,5 @@ charge_found_law image s e logs hashes entries many =
     let all : List Finding = flat_map (said_hash_findings s.shape (image_digests image)) (enumerate_from 0 s.hashes) in
     let sorted : List Finding = said_entry_findings (image_digests image) s.entries in
     verdict_of image s e
-    ∙ first_behind (flat_map (log_findings s.shape) s.logs ++ all ++ sorted) (charge_findings s) (Damaged Charge)
-    (nothing_both (flat_map (log_findings s.shape) s.logs ++ all) sorted
-    (nothing_both (flat_map (log_findings s.shape) s.logs) all logs hashes) entries)
-    (ap (λ (b : Bool). slice_get (finding_if b (Damaged Charge)) 0) (lt-ltb s.shape.sorted_capacity (charge_of s) many))
+    ∙ first_behind (flat_map (log_findings s.shape) s.logs ++ all ++ sorted) (charge_findings s) (Damaged Charge) (search (arith, nothing_both))
+    (search (arith, lt-ltb))

@@ -1,10 +1,10 @@
 -- When an image is good, and what it then represents.
-use Rattle.silt_image.proofs.Common.{◌+◌, Bool, true, false, not, nat_lt, if◌then◌else◌, flat_map, slice_get, IsTrue, sym, ap, ◌∙◌, arith, list_all, enumerate_from, range_with_len, bytes_eq}
-use Rattle.silt_image.proofs.Common.{and_parts, and_from, Shape, has_known_kind, StoredRow, put_count, first_body, long_record, manifest_found, Digests, Part, Stores, image_digests}
-use Rattle.silt_image.proofs.Common.{stores_of_current, stores_shaped, AreDigestsOf, IsSound, all_logs_fit, charge_findings, charge_of, digest_findings, entries_digest, findings_of, map_where_sound}
-use Rattle.silt_image.proofs.Common.{part_digest, rows_found, said_entry_findings, said_hash, said_hash_findings, said_sorted, finding_if, fits_table, row_findings, map_of_rows, Finding, Damaged}
-use Rattle.silt_image.proofs.Common.{Crowded, Place, Log, Hash, HashDigest, Sorted, SortedDigest, Charge, fine_of, fits_take, of_fine, nothing_both, nothing_first, nothing_second}
-use Rattle.std.proofs.Common.{◌≡◌, ◌↔◌, ℕ, ◌-◌, List, [], ◌∷◌, ◌++◌, length, take, get_or, Option, Some, None, is_some, IsSome, Result, Ok, Err, refl}
+use Rattle.silt_image.proofs.Common.{Bool, true, false, not, nat_lt, if◌then◌else◌, flat_map, slice_get, IsTrue, sym, ap, ◌∙◌, arith, list_all, enumerate_from, range_with_len, bytes_eq}
+use Rattle.silt_image.proofs.Common.{and_parts, and_from, Shape, StoredRow, first_body, long_record, manifest_found, Digests, Part, Stores, image_digests, stores_of_current, stores_shaped}
+use Rattle.silt_image.proofs.Common.{AreDigestsOf, IsSound, all_logs_fit, charge_findings, charge_of, digest_findings, entries_digest, findings_of, map_where_sound, rows_found}
+use Rattle.silt_image.proofs.Common.{said_entry_findings, said_hash_findings, finding_if, fits_table, row_findings, map_of_rows, Finding, Damaged, Crowded, Place, Sorted, Charge, fine_of}
+use Rattle.silt_image.proofs.Common.{fits_take, of_fine, nothing_both, nothing_first, nothing_second}
+use Rattle.std.proofs.Common.{◌≡◌, ◌↔◌, ℕ, ◌-◌, List, [], ◌∷◌, ◌++◌, length, get_or, Option, Some, None, is_some, IsSome, Result, Ok, Err, refl}
 use Rattle.silt_log.specs.Rows.{log_rows}
 use Rattle.silt_frame.specs.Rows.{keys_of}
 use Rattle.silt_image.specs.Stores.{image_stores, stores_named}
@@ -12,7 +12,7 @@ use Rattle.silt_sorted_store.specs.State.{sorted_rows}
 use Rattle.silt_image.specs.Meaning.{image_fits, image_map, image_rows, image_stands, image_verdict, is_crowding, rows_of, store_findings}
 use Rattle.silt_sorted_store.specs.Findings.{entry_findings, is_key_below, sorted_findings}
 use Rattle.silt_log_store.specs.Findings.{log_findings}
-use Rattle.silt_hash_store.specs.Findings.{hash_findings, is_sound_hash_slot, slot_findings}
+use Rattle.silt_hash_store.specs.Findings.{hash_findings, slot_findings}
 use Rattle.silt_image.specs.Laws.{EmptyLaw, NoStoresLaw, RowsLaw, SoundLaw, StandsLaw, VerdictLaw}
 use Rattle.silt_image.proofs.Named.{digests_law, whole_law}
 use Rattle.silt_log_store.proofs.Findings.{fits_none}
@@ -27,16 +27,12 @@ is_damage f = not (is_crowding f)
 -- a test of all elements of two lists
 all_append : {X : Type 0} (p : X → Bool) (xs ys : List X) → list_all p xs ≡ true → list_all p ys ≡ true → list_all p (xs ++ ys) ≡ true
 all_append p [] ys hx hy = hy
-all_append p (x ∷ xs) ys hx hy =
-    let parts = and_parts (p x) (list_all p xs) hx in
-    and_from _ _ parts.0 (all_append p xs ys parts.1 hy)
+all_append p (x ∷ xs) ys hx hy = search (arith, all_append p xs ys, and_parts, and_from)
 
 -- the elements of a list's lists
 all_flat : {X Y : Type 0} (p : Y → Bool) (q : X → Bool) (f : X → List Y) (xs : List X) → list_all q xs ≡ true → ((x : X) → q x ≡ true → list_all p (f x) ≡ true) → list_all p (flat_map f xs) ≡ true
 all_flat p q f [] all each = refl
-all_flat p q f (x ∷ xs) all each =
-    let parts = and_parts (q x) (list_all q xs) all in
-    all_append p (f x) (flat_map f xs) (each x parts.0) (all_flat p q f xs parts.1 each)
+all_flat p q f (x ∷ xs) all each = search (arith, all_flat p q f xs, and_parts, all_append)
 
 any_passes : {X : Type 0} (xs : List X) → list_all (λ x. true) xs ≡ true
 any_passes [] = refl
@@ -46,11 +42,7 @@ any_passes (x ∷ xs) = any_passes xs
 none_left : (fs : List Finding) → list_all is_crowding fs ≡ true → list_all is_damage fs ≡ true → fs ≡ []
 unfolding is_damage
 none_left [] c d = refl
-none_left (f ∷ fs) c d =
-    let one = and_parts (is_crowding f) (list_all is_crowding fs) c in
-    let two = and_parts (not (is_crowding f)) (list_all (λ x. not (is_crowding x)) fs) d in
-    let never : (b : Bool) → b ≡ true → not b ≡ true → ⊥ = elim [ true ↦ λ x y. cc | false ↦ λ x y. cc ] in
-    absurd (never (is_crowding f) one.0 two.0)
+none_left (f ∷ fs) c d = search (arith, and_parts)
 
 damage_if : (test : Bool) (f : Finding) → is_damage f ≡ true → list_all is_damage (finding_if test f) ≡ true
 damage_if true f d = and_from _ _ d refl
@@ -65,15 +57,12 @@ log_damage : (shape : Shape) (part : Part) → fits_table shape part.rows ≡ tr
 unfolding is_damage log_findings
 log_damage shape part fit =
     all_flat is_damage (λ j. true) (row_findings shape part) (enumerate_from 0 part.rows) (any_passes (enumerate_from 0 part.rows))
-    (λ j _. all_append is_damage (finding_if (not (has_known_kind j.1)) (Damaged (Log part.region j.0))) (finding_if (not (fits_table shape (take (j.0 + 1) part.rows))) Crowded)
-    (damage_if (not (has_known_kind j.1)) (Damaged (Log part.region j.0)) refl)
-    (crowded_if (fits_table shape (take (j.0 + 1) part.rows)) (fits_take shape part.rows (j.0 + 1) fit)))
+    (search (arith, all_append, is_damage, damage_if, crowded_if, fits_take))
 
 hash_damage : (shape : Shape) (part : Part) → list_all is_damage (hash_findings shape part) ≡ true
 unfolding is_damage hash_findings
 hash_damage shape part =
-    all_flat is_damage (λ j. true) (slot_findings shape part) (enumerate_from 0 part.rows) (any_passes (enumerate_from 0 part.rows))
-    (λ j _. damage_if (not (is_sound_hash_slot shape part.rows j.0 j.1)) (Damaged (Hash part.region j.0)) refl)
+    all_flat is_damage (λ j. true) (slot_findings shape part) (enumerate_from 0 part.rows) (any_passes (enumerate_from 0 part.rows)) (search (arith, damage_if))
 
 sorted_damage : (rows : List StoredRow) → list_all is_damage (sorted_findings rows) ≡ true
 unfolding is_damage sorted_findings
@@ -88,14 +77,10 @@ digest_damage place None digest = refl
 digest_damage place (Some first) digest = damage_if (not (bytes_eq first digest)) (Damaged place) refl
 
 said_hash_damage : (shape : Shape) (said : Option Digests) (place : ℕ) (part : Part) → list_all is_damage (said_hash_findings shape said (place, part)) ≡ true
-said_hash_damage shape said place part =
-    all_append is_damage (hash_findings shape part) (digest_findings (HashDigest part.region) (said_hash said place) (part_digest part))
-    (hash_damage shape part) (digest_damage (HashDigest part.region) (said_hash said place) (part_digest part))
+said_hash_damage shape said place part = search (arith, all_append, is_damage, hash_damage, digest_damage)
 
 said_entry_damage : (said : Option Digests) (entries : List StoredRow) → list_all is_damage (said_entry_findings said entries) ≡ true
-said_entry_damage said entries =
-    all_append is_damage (sorted_findings entries) (digest_findings SortedDigest (said_sorted said) (entries_digest entries))
-    (sorted_damage entries) (digest_damage SortedDigest (said_sorted said) (entries_digest entries))
+said_entry_damage said entries = search (arith, all_append, is_damage, sorted_damage, digest_damage)
 
 -- if the keys of all logs have places, no log is crowded
 store_damage : (said : Option Digests) (s : Stores) → list_all (λ (part : Part). fits_table s.shape part.rows) s.logs ≡ true → list_all is_damage (store_findings said s) ≡ true
@@ -104,13 +89,10 @@ store_damage said s fit =
     let logs : List Finding = flat_map (log_findings s.shape) s.logs in
     let hashes : List Finding = flat_map (said_hash_findings s.shape said) (enumerate_from 0 s.hashes) in
     let entries : List Finding = said_entry_findings said s.entries in
-    all_append is_damage (logs ++ hashes ++ entries) (charge_findings s)
-    (all_append is_damage (logs ++ hashes) entries
-    (all_append is_damage logs hashes
-    (all_flat is_damage (λ (part : Part). fits_table s.shape part.rows) (log_findings s.shape) s.logs fit (log_damage s.shape))
-    (all_flat is_damage (λ j. true) (said_hash_findings s.shape said) (enumerate_from 0 s.hashes) (any_passes (enumerate_from 0 s.hashes)) (λ j _. said_hash_damage s.shape said j.0 j.1)))
-    (said_entry_damage said s.entries))
-    (damage_if (nat_lt s.shape.sorted_capacity (charge_of s)) (Damaged Charge) refl)
+    all_append is_damage (logs ++ hashes ++ entries) (charge_findings s) (all_append is_damage (logs ++ hashes) entries (all_append is_damage logs hashes
+    (all_flat is_damage (λ (part : Part). fits_table s.shape part.rows) (log_findings s.shape) s.logs fit (log_damage s.shape)) (all_flat is_damage (λ j. true)
+    (said_hash_findings s.shape said) (enumerate_from 0 s.hashes) (any_passes (enumerate_from 0 s.hashes)) (λ j _. said_hash_damage s.shape said j.0 j.1)))
+    (said_entry_damage said s.entries)) (damage_if (nat_lt s.shape.sorted_capacity (charge_of s)) (Damaged Charge) refl)
 
 -- if the logs have no finding, their keys have places
 all_logs : (shape : Shape) (logs : List Part) → flat_map (log_findings shape) logs ≡ [] → list_all (λ (part : Part). fits_table shape part.rows) logs ≡ true
@@ -203,22 +185,11 @@ no_rows s region logs hashes entries = rw (logs, hashes, entries) refl
 
 -- and no finding
 nothing_found : (s : Stores) (region : ℕ) → s.logs ≡ record { region = region; rows = [] } ∷ [] → s.hashes ≡ [] → s.entries ≡ [] → IsSound s
-nothing_found s region logs hashes entries =
-    let none : flat_map (log_findings s.shape) s.logs ≡ [] =
-    ap (flat_map (log_findings s.shape)) logs ∙ nothing_both (log_findings s.shape (record { region = region; rows = [] })) []
-    (of_fine s.shape (record { region = region; rows = [] }) (record { known = refl; fits = fits_none s.shape })) refl in
-    let puts : charge_of s ≡ 0 = ap put_count (no_rows s region logs hashes entries) in
-    (logs_sound_law s none hashes entries).1 (omega (arith, puts))
+nothing_found s region logs hashes entries = search (arith, nothing_both, of_fine, fits_none, no_rows, logs_sound_law)
 
 -- the digests of stores without hash stores and entries
 first_digests : (said : Option Digests) (digests : Digests) (s : Stores) → said ≡ Some digests → digests.sorted.0 ≡ entries_digest [] → s.hashes ≡ [] → s.entries ≡ [] → AreDigestsOf said s
-first_digests said digests s is digest hashes entries = record {
-  hashed = λ place part there. absurd (let none = ap (λ (parts : List Part). slice_get parts place) (sym hashes) ∙ there in cc);
-  sorted = λ other says.
-      let same : Some digests.sorted.0 ≡ Some other = ap said_sorted (sym is) ∙ says in
-      let is_other : digests.sorted.0 ≡ other = cc in
-      sym is_other ∙ digest ∙ ap entries_digest (sym entries);
-}
+first_digests said digests s is digest hashes entries = search arith
 
 -- it represents the empty map
 pub empty_law : EmptyLaw

@@ -52,13 +52,13 @@ old_header s =
 -- the bytes of a body behind which there are no digests
 short_bytes : Body → List ℕ
 short_bytes b =
-    big_bytes 8 b.generation ++ big_bytes 4 b.active ++ ids_bytes 7 b.frozen ++ ids_bytes 16 b.hashed
-    ++ big_bytes 4 b.sorted ++ big_bytes 4 b.sorted_count
+    big_bytes 8 b.generation ++ big_bytes 4 b.active ++ ids_bytes 7 b.frozen ++ ids_bytes 16 b.hashed ++ big_bytes 4 b.sorted ++ big_bytes 4 b.sorted_count
 
 -- such a device: its two slots, the commit bytes and bodies of log 0, hash region 0 and sorted region 0; the rest zeros
 device : List ℕ → List ℕ → List ℕ → List ℕ → List ℕ → List ℕ → List ℕ
 device slot0 slot1 commits bodies slots entries =
-    sector 1 (0xA7 ∷ old_header small) ++ sector 1 slot0 ++ sector 1 slot1 ++ sector 1 commits ++ sector 1 bodies ++ sector 2 [] ++ sector 1 slots ++ sector 1 [] ++ sector 1 entries ++ sector 1 []
+    sector 1 (0xA7 ∷ old_header small) ++ sector 1 slot0 ++ sector 1 slot1 ++ sector 1 commits ++ sector 1 bodies ++ sector 2 [] ++ sector 1 slots ++ sector 1
+    [] ++ sector 1 entries ++ sector 1 []
 
 formatted : List ℕ
 formatted = device (0xA7 ∷ short_bytes first_body) [] [] [] [] []
