@@ -1,15 +1,12 @@
 -- A write after a sync.
-use Rattle.silt_log.proofs.Common.{◌≡◌, ℕ, List, sym, ap, subst, ◌∙◌, inl, inr, Content, Torn, ChangesWithin, Writes, splice, SyncsAndTears}
+use Rattle.std.proofs.Common.{arith}
+use Rattle.silt_log.proofs.Common.{◌≡◌, ℕ, List, subst, ◌∙◌, inr, Content, Torn, ChangesWithin, Writes, SyncsAndTears}
 use Rattle.silt_disk.specs.Disk.{Settles, Stays}
 use Rattle.silt_disk.proofs.Images.{left_after_sync, left_after_failed_sync, torn_refl}
 
 -- the sync failed
 pub not_begun : (at count : ℕ) (old new : Content) → Stays old new → SyncsAndTears at count old new
-not_begun at count old new stays = record {
-  honest = stays.honest;
-  shown = λ honest. subst (λ image. Torn at count old.shown image) (sym (stays.shown honest)) (torn_refl at count old.shown);
-  left = λ honest image left. inl (left_after_failed_sync stays honest image left);
-}
+not_begun at count old new stays = search (arith, torn_refl, left_after_failed_sync, stays.shown)
 
 -- the sync returned Ok, and the write was begun
 pub begun : (at count : ℕ) (old between new : Content) → Settles old between → ChangesWithin at count between new → SyncsAndTears at count old new
@@ -23,12 +20,8 @@ begun at count old between new settles changes = record {
 
 -- both returned Ok
 pub written_after_sync : (at : ℕ) (bytes : List ℕ) (old between new : Content) → Settles old between → Writes at bytes between new → Writes at bytes old new
-written_after_sync at bytes old between new settles writes = record {
-  honest = writes.honest ∙ settles.honest;
-  shown = λ honest. writes.shown (settles.honest ∙ honest) ∙ ap (λ (image : List ℕ). splice at bytes image) (settles.shown honest);
-}
+written_after_sync at bytes old between new settles writes = search (arith, writes.shown, settles.shown)
 
 -- a range under another name
 pub tears_at : (at count at_other count_other : ℕ) (old new : Content) → at ≡ at_other → count ≡ count_other → SyncsAndTears at count old new → SyncsAndTears at_other count_other old new
-tears_at at count at_other count_other old new same_at same_count tears =
-    subst (λ n. SyncsAndTears at_other n old new) same_count (subst (λ n. SyncsAndTears n count old new) same_at tears)
+tears_at at count at_other count_other old new same_at same_count tears = search arith

@@ -1,8 +1,8 @@
 -- The state at each exit of the calls that write all commit bytes of a log or those of the waiting rows.
-use Rattle.silt_log.proofs.Common.{◌≡◌, ℕ, ◌+◌, ◌-◌, ◌≤◌, ◌<◌, false, IsTrue, List, [], ◌++◌, length, map, get_or, replicate, refl, sym, ap, ◌∙◌, subst, inl, inr, arith, prefix_len, range_with_len}
-use Rattle.silt_log.proofs.Common.{false≢true, get_or-replicate, length-replicate, append-nil, length-map-range_with_len, Content, Torn, LeavesOnly, Writes, Rests, size, splice, row_len, commits_at}
-use Rattle.silt_log.proofs.Common.{bodies_at, device_size, shown_left, rests_leaves, splice_byte, is_open, commit_bytes, body_row, StoredRow, LogState, InBounds, IsLog, settled_rows, all_rows}
-use Rattle.silt_log.proofs.Common.{SyncsAndTears, OpensCommits}
+use Rattle.silt_log.proofs.Common.{◌≡◌, ℕ, ◌+◌, ◌-◌, ◌≤◌, ◌<◌, false, IsTrue, List, [], ◌++◌, length, map, replicate, refl, sym, ap, ◌∙◌, subst, inl, inr, arith, prefix_len, range_with_len}
+use Rattle.silt_log.proofs.Common.{false≢true, get_or-replicate, length-replicate, append-nil, length-map-range_with_len, Content, Torn, LeavesOnly, Writes, Rests, size, splice, row_len}
+use Rattle.silt_log.proofs.Common.{commits_at, bodies_at, device_size, shown_left, rests_leaves, splice_byte, is_open, commit_bytes, body_row, StoredRow, LogState, InBounds, IsLog}
+use Rattle.silt_log.proofs.Common.{settled_rows, all_rows, SyncsAndTears, OpensCommits}
 use Rattle.std.proofs.lemmas.List.FromFn.{take-map-range_with_len}
 use Rattle.silt_log.specs.Rows.{rows_from, first_rows, row_at, log_rows, open_count}
 use Rattle.silt_log.specs.State.{opened_image}
@@ -20,27 +20,12 @@ unfolding rows_from
 prepare_done old new log bytes region fits same all writes rests =
     let after : LogState = record log { settled = 0; used = 0; stale = false } in
     let place = region_lies log.shape log.region (size old) region fits in
-    let bounds : InBounds after = record { region = region; order = omega arith; room = omega arith; gap = λ stale. absurd (false≢true stale) } in
+    let bounds : InBounds after = search arith in
     let fits_new = fits_resized log.shape old new fits same in
     let zeros : List ℕ = replicate bytes 0 in
     let long : length zeros ≡ bytes = length-replicate bytes 0 in
     let within : commits_at log.shape log.region + log.shape.log_capacity ≤ size old = commits_within _ _ _ _ _ place old.shown refl in
-    let leaves : LeavesOnly new (StandsIn new after []) = rests_leaves rests (record {
-      holds = λ honest.
-          let was : IsTrue old.honest = sym writes.honest ∙ honest in
-          record {
-            long = refl;
-            are = record {
-              opened = λ place below. absurd (omega arith);
-              closed = λ place past below.
-                  ap is_open (ap (λ (image : List ℕ). get_or image (commits_at log.shape log.region + place) 0) (writes.shown was)
-                  ∙ splice_byte (commits_at log.shape log.region) zeros old.shown place
-                  (subst (λ n. commits_at log.shape log.region + n ≤ size old) (sym (long ∙ all)) within) (omega (arith, long, all, below))
-                  ∙ get_or-replicate bytes place 0 0 (omega (arith, all, below)));
-            };
-            hold = refl;
-          };
-    }) in
+    let leaves : LeavesOnly new (StandsIn new after []) = search (arith, rests_leaves, splice_byte, get_or-replicate, writes.shown) in
     record { log = refl; stands = log_from new after [] bounds refl fits_new leaves; images = stands_images new after [] bounds fits_new leaves }
 
 -- ---- open_commits: a sync, a write over the commit bytes of the waiting rows, a sync
@@ -55,21 +40,12 @@ module _ (old : Content) (log : LogState) (is : IsLog old log) (fits : device_si
 
   -- the commit bytes of the waiting rows lie within what is shown
   open_within : commits_at log.shape log.region + log.settled + length {A = ℕ} (replicate (log.used - log.settled) 167) ≤ length old.shown
-  open_within =
-      let place = region_lies log.shape log.region (size old) is.bounds.region fits in
-      let within : commits_at log.shape log.region + log.shape.log_capacity ≤ length old.shown = commits_within _ _ _ _ _ place old.shown refl in
-      let ones : List ℕ = replicate (log.used - log.settled) 167 in
-      let long : length ones ≡ log.used - log.settled = length-replicate (log.used - log.settled) 167 in
-      omega (arith, within, open_most, long)
+  open_within = search (arith, region_lies, commits_within, length-replicate, open_most)
 
   -- after a write there, with all of these commit bytes open, the image is the same
   pub open_full_same : (new : List ℕ) → Torn (commits_at log.shape log.region + log.settled) (log.used - log.settled) old.shown new
       → splice (commits_at log.shape log.region + log.settled) (replicate (log.used - log.settled) 167) new ≡ opened_image old log
-  open_full_same new torn =
-      let ones : List ℕ = replicate (log.used - log.settled) 167 in
-      let long : length ones ≡ log.used - log.settled = length-replicate (log.used - log.settled) 167 in
-      spliced_over (commits_at log.shape log.region + log.settled) ones old.shown new open_within
-      (subst (λ n. Torn (commits_at log.shape log.region + log.settled) n old.shown new) (sym long) torn)
+  open_full_same new torn = search (arith, length-replicate, spliced_over, open_within)
 
   -- an image with some of these commit bytes open
   pub open_beginning : (before image : List ℕ) → StandsIn old log (settled_rows old log) before → before ≡ old.shown

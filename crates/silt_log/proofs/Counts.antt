@@ -1,6 +1,6 @@
 -- How many commit bytes are open before the first closed one.
-use Rattle.silt_log.proofs.Common.{◌≡◌, ℕ, ◌+◌, ◌-◌, ◌≤◌, ◌<◌, true, false, List, length, drop, get_or, sym, ap, ◌∙◌, inl, inr, arith, length-drop, prefix_len, list_any, cases_lt, cases_Bool}
-use Rattle.silt_log.proofs.Common.{false≢true, length-between, get_or-between, Torn, is_open, CommitsAre, commit_bytes}
+use Rattle.silt_log.proofs.Common.{◌≡◌, ℕ, ◌+◌, ◌-◌, ◌≤◌, ◌<◌, true, false, List, length, drop, get_or, sym, ap, ◌∙◌, inl, inr, arith, length-drop, prefix_len, list_any, cases_lt}
+use Rattle.silt_log.proofs.Common.{cases_Bool, false≢true, length-between, get_or-between, Torn, is_open, CommitsAre, commit_bytes}
 use Rattle.std.proofs.Common.{get_or-drop}
 use Rattle.std.proofs.lemmas.Bool.{cases_order}
 use Rattle.std.proofs.lemmas.List.Folds.{list_any_at}
@@ -31,8 +31,7 @@ module _ (commits count : ℕ) (image : List ℕ) (fits : commits + count ≤ le
 
   -- the first commit byte that is not counted is closed
   pub first_closed : prefix_len is_open (commit_bytes commits count image) < count → is_open (get_or image (commits + prefix_len is_open (commit_bytes commits count image)) 0) ≡ false
-  first_closed below =
-      ap is_open (sym (commit_byte _ below)) ∙ prefix_len_stops is_open (commit_bytes commits count image) 0 (omega (arith, commits_length))
+  first_closed below = ap is_open (sym (commit_byte _ below)) ∙ prefix_len_stops is_open (commit_bytes commits count image) 0 (omega (arith, commits_length))
 
   -- the first n open and all others closed: n are counted
   pub count_is : (n : ℕ) → n ≤ count → CommitsAre commits count n image → prefix_len is_open (commit_bytes commits count image) ≡ n
@@ -49,10 +48,7 @@ module _ (commits count : ℕ) (image : List ℕ) (fits : commits + count ≤ le
       → (n ≤ prefix_len is_open (commit_bytes commits count image)) × (prefix_len is_open (commit_bytes commits count image) ≤ m)
   count_between n m low high opened closed =
       let counted : ℕ = prefix_len is_open (commit_bytes commits count image) in (
-        elim (cases_lt counted n) [
-          | inl below ↦ absurd (false≢true (sym (first_closed (omega arith)) ∙ opened counted below))
-          | inr least ↦ least
-        ],
+        search (arith, cases_lt, first_closed),
         elim (cases_lt m counted) [
           | inl above ↦ absurd (false≢true (sym (closed (omega (arith, count_most))) ∙ counted_open m above))
           | inr most ↦ most
@@ -69,19 +65,12 @@ module _ (commits count : ℕ) (image : List ℕ) (fits : commits + count ≤ le
         opened = counted_open;
         closed = λ place past below.
             let here : get_or (drop counted bytes) (place - counted) 0 ≡ get_or image (commits + place) 0 =
-            get_or-drop counted bytes (place - counted) 0 ∙ same_byte bytes (counted + (place - counted)) place (omega arith) ∙ commit_byte place below in
-            elim (cases_Bool (is_open (get_or image (commits + place) 0))) [
-              | inl open_here ↦ absurd
-                  (false≢true (sym none ∙ list_any_at is_open (drop counted bytes) (place - counted) 0 (omega (arith, length-drop counted bytes, commits_length)) (ap is_open here ∙ open_here)))
-              | inr shut ↦ shut
-            ];
+            search (arith, get_or-drop, same_byte, commit_byte) in
+            search (arith, cases_Bool, list_any_at, length-drop, commits_length);
       }
 
 -- ---- after a write
 
 -- commit bytes outside a write's range stay
 pub torn_commits : (commits count n at len : ℕ) (old new : List ℕ) → n ≤ count → commits + count ≤ at → Torn at len old new → CommitsAre commits count n old → CommitsAre commits count n new
-torn_commits commits count n at len old new most apart torn are = record {
-  opened = λ place below. ap is_open (torn.before (commits + place) (omega arith)) ∙ are.opened place below;
-  closed = λ place past below. ap is_open (torn.before (commits + place) (omega arith)) ∙ are.closed place past below;
-}
+torn_commits commits count n at len old new most apart torn are = search (arith, torn.before, are.opened, are.closed)

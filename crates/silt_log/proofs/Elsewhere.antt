@@ -1,7 +1,8 @@
 -- For the crates above: what calls on other parts of the disk leave of a log, and how its rows make one list.
-use Rattle.silt_log.proofs.Common.{◌≡◌, ℕ, ◌+◌, ◌-◌, ◌*◌, ◌≤◌, ◌<◌, IsTrue, List, ◌++◌, length, map, get_or, refl, sym, ap, ◌∙◌, subst, inl, inr, arith, range_with_len, prefix_len, ChangesWithin}
-use Rattle.silt_log.proofs.Common.{Content, LeavesOnly, Torn, size, Shape, bodies_at, device_size, commits_at, row_len, shown_left, torn_slice_before, within_leaves, torn_slice_after, CommitsAre}
-use Rattle.silt_log.proofs.Common.{body_at, body_row, commit_bytes, row_of, StoredRow, LogState, IsLog, settled_rows, waiting_rows, all_rows, KeepsRows, length-map-range_with_len, is_open}
+use Rattle.silt_log.proofs.Common.{◌≡◌, ℕ, ◌+◌, ◌-◌, ◌*◌, ◌≤◌, ◌<◌, IsTrue, List, ◌++◌, length, map, get_or, refl, sym, ap, ◌∙◌, subst, inl, inr, arith, range_with_len, prefix_len}
+use Rattle.silt_log.proofs.Common.{ChangesWithin, Content, LeavesOnly, Torn, size, Shape, bodies_at, device_size, commits_at, row_len, shown_left, torn_slice_before, within_leaves}
+use Rattle.silt_log.proofs.Common.{torn_slice_after, CommitsAre, body_at, body_row, commit_bytes, row_of, StoredRow, LogState, IsLog, settled_rows, waiting_rows, all_rows, KeepsRows}
+use Rattle.silt_log.proofs.Common.{length-map-range_with_len, is_open}
 use Rattle.std.proofs.Common.{◌⊎◌}
 use Rattle.silt_disk.specs.Disk.{LiesOutside}
 use Rattle.silt_disk.specs.Layout.{log_len, log_size}
@@ -17,10 +18,7 @@ use Rattle.silt_log.proofs.Exits.{fits_resized, StandsIn, region_lies, log_from,
 -- a range outside a log's commit bytes and bodies lies before its commit bytes or after its bodies
 pub outside_bodies : (s : Shape) (region at count : ℕ) → LiesOutside (commits_at s region) (log_len s) at count → (at + count ≤ commits_at s region)
     ⊎ (bodies_at s region + s.log_capacity * row_len s ≤ at)
-outside_bodies s region at count outside = elim outside [
-  | inl before ↦ inl before
-  | inr behind ↦ inr (omega (arith, behind))
-]
+outside_bodies s region at count outside = search arith
 
 -- ---- the rows of a log
 
@@ -50,24 +48,18 @@ shown_rows content log is honest = is.images.each honest content.shown (shown_le
 
 -- ---- a change elsewhere
 
-module _ (commits count bodies len : ℕ) (lies : commits + count ≤ bodies) (at long : ℕ) (outside : (at + long ≤ commits) ⊎ (bodies + count * len ≤ at)) (old new : List ℕ) (torn : Torn at long old new) where
+module _ (commits count bodies len : ℕ) (lies : commits + count ≤ bodies) (at long : ℕ) (outside : (at + long ≤ commits) ⊎ (bodies + count * len ≤ at)) (old new : List ℕ)
+    (torn : Torn at long old new) where
   commit_elsewhere : (place : ℕ) → place < count → get_or new (commits + place) 0 ≡ get_or old (commits + place) 0
-  commit_elsewhere place below = elim outside [
-    | inl before ↦ torn.after (commits + place) (omega arith)
-    | inr behind ↦ torn.before (commits + place) (omega arith)
-  ]
+  commit_elsewhere place below = search arith
 
   commits_elsewhere : (n : ℕ) → n ≤ count → CommitsAre commits count n old → CommitsAre commits count n new
-  commits_elsewhere n most are = record {
-    opened = λ place below. ap is_open (commit_elsewhere place (omega arith)) ∙ are.opened place below;
-    closed = λ place past below. ap is_open (commit_elsewhere place below) ∙ are.closed place past below;
-  }
+  commits_elsewhere n most are = search (arith, commit_elsewhere, are.opened, are.closed)
 
   pub rows_elsewhere : (n : ℕ) → n ≤ count → bodies + count * len ≤ length old → map (body_row bodies len new) (range_with_len 0 n) ≡ map (body_row bodies len old) (range_with_len 0 n)
   rows_elsewhere n most fits = elim outside [
     | inl before ↦ rows_behind bodies len old new at long count 0 n (omega arith) (omega arith) fits torn
-    | inr behind ↦ map_range_same (body_row bodies len new) (body_row bodies len old) 0 n
-        (λ place low high.
+    | inr behind ↦ map_range_same (body_row bodies len new) (body_row bodies len old) 0 n (λ place low high.
         let inside : bodies + place * len + len ≤ bodies + count * len = body_before bodies len place count (omega (arith, most, high)) in
         ap row_of (torn_slice_before at long old new torn (bodies + place * len) (bodies + place * len + len) (omega (arith, inside, behind)) (omega (arith, inside, fits))))
   ]
@@ -77,17 +69,16 @@ pub log_rows_elsewhere : (s : Shape) (region at count : ℕ) (old new : List ℕ
     → LiesOutside (commits_at s region) (log_len s) at count → Torn at count old new → log_rows s region new ≡ log_rows s region old
 unfolding log_rows rows_from row_at open_count
 log_rows_elsewhere s region at count old new before fits outside torn =
-    let place = region_lies s region (length old) before fits in
-    let commits_fit : commits_at s region + s.log_capacity ≤ length old = commits_within _ _ _ _ _ place old refl in
-    let inside : bodies_at s region + s.log_capacity * row_len s ≤ length old = place.inside in
+    let place = region_lies s region _ before fits in
+    let commits_fit = commits_within _ _ _ _ _ place old refl in
+    let inside = place.inside in
     let ends : commits_at s region + s.log_capacity ≤ bodies_at s region + s.log_capacity * row_len s = omega (arith, place.apart) in
     let bytes : commit_bytes (commits_at s region) s.log_capacity new ≡ commit_bytes (commits_at s region) s.log_capacity old = elim outside [
       | inl earlier ↦ torn_slice_after at count old new torn (commits_at s region) (commits_at s region + s.log_capacity) earlier commits_fit
       | inr behind ↦ torn_slice_before at count old new torn (commits_at s region) (commits_at s region + s.log_capacity) (omega (arith, ends, behind)) commits_fit
     ] in
     let counted : ℕ = prefix_len is_open (commit_bytes (commits_at s region) s.log_capacity old) in
-    ap (λ (l : List ℕ). map (body_row (bodies_at s region) (row_len s) new) (range_with_len 0 (prefix_len is_open l))) bytes
-    ∙ rows_elsewhere _ _ _ _ place.apart at count (outside_bodies s region at count outside) old new torn counted (count_most _ _ old commits_fit) inside
+    cc (rows_elsewhere _ _ _ _ place.apart at count (outside_bodies s region at count outside) old new torn counted (count_most _ _ old commits_fit) inside)
 
 -- a change outside the region of a log leaves the log and its rows
 pub log_elsewhere : (old new : Content) (log : LogState) (at count : ℕ) → IsLog old log → device_size log.shape ≤ size old → size new ≡ size old

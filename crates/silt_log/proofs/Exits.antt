@@ -1,7 +1,7 @@
 -- The state at each exit of the calls of a log.
-use Rattle.silt_log.proofs.Common.{◌≡◌, ℕ, ◌+◌, ◌-◌, ◌*◌, ◌≤◌, ◌<◌, false, IsTrue, List, [], ◌∷◌, ◌++◌, length, map, refl, sym, ap, ◌∙◌, subst, arith, range_with_len, false≢true}
-use Rattle.silt_log.proofs.Common.{map-range_with_len_more, Content, LeavesOnly, ChangesWithin, Writes, size, Shape, row_len, commits_at, bodies_at, device_size, shown_left, within_leaves, body_row}
-use Rattle.silt_log.proofs.Common.{body_at, row_of, StoredRow, LogState, InBounds, IsLog, settled_rows, all_rows, KeepsRows}
+use Rattle.silt_log.proofs.Common.{◌≡◌, ℕ, ◌+◌, ◌-◌, ◌*◌, ◌≤◌, ◌<◌, false, IsTrue, List, [], ◌∷◌, ◌++◌, length, refl, sym, ap, ◌∙◌, subst, arith, map-range_with_len_more, Content}
+use Rattle.silt_log.proofs.Common.{LeavesOnly, ChangesWithin, Writes, size, Shape, row_len, commits_at, bodies_at, device_size, shown_left, within_leaves, body_row, body_at, row_of}
+use Rattle.silt_log.proofs.Common.{StoredRow, LogState, InBounds, IsLog, settled_rows, all_rows, KeepsRows}
 use Rattle.silt_disk.proofs.Regions.{regions_apart}
 use Rattle.silt_log.specs.Rows.{row_at, rows_from, log_rows, open_count}
 use Rattle.silt_log.specs.Calls.{Appends}
@@ -11,19 +11,14 @@ use Rattle.silt_log.proofs.Standing.{Lies, Stands, rows_standing, body_torn, com
 
 -- a log region lies within the device
 pub log_inside : (s : Shape) (region : ℕ) → region < s.logs → bodies_at s region + s.log_capacity * row_len s ≤ device_size s
-log_inside s region before =
-    let apart = regions_apart s in
-    omega (arith, apart.bodies region s.logs before, apart.logs 0, apart.hash_end 2)
+log_inside s region before = search (arith, regions_apart)
 
 pub region_lies : (s : Shape) (region len : ℕ) → region < s.logs → device_size s ≤ len → Lies (commits_at s region) s.log_capacity (bodies_at s region) (row_len s) len
-region_lies s region len before fits =
-    let inside : bodies_at s region + s.log_capacity * row_len s ≤ device_size s = log_inside s region before in
-    record { apart = (regions_apart s).commits region; inside = omega (arith, inside, fits) }
+region_lies s region len before fits = search (arith, log_inside, regions_apart)
 
 -- so does each of its bodies
 pub body_inside : (s : Shape) (bodies place : ℕ) → bodies + s.log_capacity * row_len s ≤ device_size s → place < s.log_capacity → bodies + place * row_len s + row_len s ≤ device_size s
-body_inside s bodies place inside before = let ends : bodies + place * row_len s + row_len s ≤ bodies + s.log_capacity * row_len s =
-    body_before bodies (row_len s) place s.log_capacity before in omega (arith, inside, ends)
+body_inside s bodies place inside before = search (arith, body_before)
 
 -- an image of this disk has the settled rows
 abbrev pub StandsIn : Content → LogState → List StoredRow → List ℕ → Type 0
@@ -34,18 +29,17 @@ pub log_from : (content : Content) (log : LogState) (rows : List StoredRow) → 
     → LeavesOnly content (StandsIn content log rows) → IsLog content log
 unfolding log_rows rows_from row_at open_count
 log_from content log rows bounds sealed fits leaves =
-    let place = region_lies log.shape log.region (size content) bounds.region fits in
-    let shown : IsTrue content.honest → StandsIn content log rows content.shown = λ honest. leaves.each honest content.shown (shown_left content) in
+    let place = region_lies _ _ _ bounds.region fits in
+    let shown : IsTrue content.honest → StandsIn content log rows content.shown = λ honest. leaves.each honest content.shown (shown_left _) in
     let more : ℕ = log.used - log.settled in
     let both : log.settled + more ≡ log.used = omega (arith, bounds.order) in
     let most : log.settled + more ≤ log.shape.log_capacity = omega (arith, both, bounds.room) in
     record {
       bounds = bounds;
       sealed = sealed;
-      images = record { each = λ honest image left. rows_standing _ _ _ _ _ place log.settled rows image (omega (arith, most)) (leaves.each honest image left) ∙ sym (shown honest).hold };
+      images = record { each = λ honest image left. rows_standing _ _ _ _ _ place _ rows image (omega (arith, most)) (leaves.each honest image left) ∙ sym (shown honest).hold };
       full = λ honest.
-          rows_standing _ _ _ _ _ place (log.settled + more) _ _ most (commits_spliced _ _ _ _ _ place log.settled more rows content.shown most (shown honest))
-          ∙ ap (λ n. map (body_row (bodies_at log.shape log.region) (row_len log.shape) content.shown) (range_with_len 0 n)) both;
+          cc (rows_standing _ _ _ _ _ place (log.settled + more) _ _ most (commits_spliced _ _ _ _ _ place log.settled more rows content.shown most (shown honest)));
       commits = record { each = λ honest image left. (leaves.each honest image left).are };
     }
 
@@ -53,7 +47,7 @@ log_from content log rows bounds sealed fits leaves =
 pub log_standing : (content : Content) (log : LogState) → IsLog content log → device_size log.shape ≤ size content → LeavesOnly content (StandsIn content log (settled_rows content log))
 unfolding log_rows rows_from row_at open_count
 log_standing content log is fits =
-    let place = region_lies log.shape log.region (size content) is.bounds.region fits in
+    let place = region_lies _ _ _ is.bounds.region fits in
     let most : log.settled ≤ log.shape.log_capacity = omega (arith, is.bounds.order, is.bounds.room) in
     record {
       each = λ honest image left.
@@ -62,8 +56,7 @@ log_standing content log is fits =
           record {
             long = long;
             are = commits;
-            hold = ap (λ n. map (body_row (bodies_at log.shape log.region) (row_len log.shape) image) (range_with_len 0 n))
-                (sym (count_is _ _ image (commits_within _ _ _ _ _ place image long) log.settled most commits)) ∙ is.images.each honest image left;
+            hold = cc (count_is _ _ image (commits_within _ _ _ _ _ place image long) log.settled most commits, is.images.each honest image left);
           };
     }
 
@@ -90,8 +83,7 @@ module _ (old new : Content) (log : LogState) (is : IsLog old log) (fits : devic
   append_stands : LeavesOnly new (StandsIn new log (settled_rows old log))
   append_stands =
       let place = region_lies log.shape log.region (size old) is.bounds.region fits in
-      within_leaves changes (log_standing old log is fits) (λ before after stands torn.
-      stands_resized old new log (settled_rows old log) after same (body_torn _ _ _ _ _ place log.used log.settled (settled_rows old log) before after room is.bounds.order stands torn))
+      within_leaves changes (log_standing old log is fits) (λ before after stands torn. search (arith, stands_resized, body_torn))
 
   append_fits : device_size log.shape ≤ size new
   append_fits = fits_resized log.shape old new fits same
@@ -122,15 +114,13 @@ module _ (old new : Content) (log : LogState) (is : IsLog old log) (fits : devic
   unfolding rows_from row_at
   append_done bytes long writes =
       let place = region_lies log.shape log.region (size old) is.bounds.region fits in
-      let bounds : InBounds (record log { used = log.used + 1 }) =
-      record { region = is.bounds.region; order = omega (arith, is.bounds.order); room = omega arith; gap = λ stale. absurd (false≢true (sym is.sealed ∙ stale)) } in
+      let bounds : InBounds (record log { used = log.used + 1 }) = search arith in
       let row : ℕ → StoredRow = body_row (bodies_at log.shape log.region) (row_len log.shape) new.shown in
       record {
         log = refl;
         stands = log_from new (record log { used = log.used + 1 }) (settled_rows old log) bounds is.sealed append_fits append_stands;
         settled = append_settled;
-        all = λ honest.
-            map-range_with_len_more row 0 log.used log.used (omega arith)
+        all = λ honest. map-range_with_len_more row 0 log.used log.used (omega arith)
             ∙ ap (λ rows. rows ++ row log.used ∷ []) (append_all honest)
             ∙ ap (λ last. all_rows old log ++ last ∷ [])
             (cc (writes.shown honest, row_written (bodies_at log.shape log.region) (row_len log.shape) old.shown bytes log.used log.shape.log_capacity room long place.inside));
@@ -139,5 +129,4 @@ module _ (old new : Content) (log : LogState) (is : IsLog old log) (fits : devic
 -- the same for a row and a log under other names
 pub appends_as : (row row_other : StoredRow) (old new : Content) (before after after_other : LogState) → row ≡ row_other
     → after_other ≡ after → Appends row old new before after → Appends row_other old new before after_other
-appends_as row row_other old new before after after_other same_row same_after appends =
-    subst (λ r. Appends r old new before after_other) same_row (subst (λ l. Appends row old new before l) (sym same_after) appends)
+appends_as row row_other old new before after after_other same_row same_after appends = search arith

@@ -1,9 +1,5 @@
 -- The heads and the whole bodies that are read.
-use Rattle.silt_frame.specs.declared.key.Kind.{Kind}
-use Rattle.silt_frame.specs.declared.key.Key.{Key}
-use Rattle.silt_frame.specs.Frame.{kind_of}
-use Rattle.std.proofs.Common.{option_map}
-use Rattle.silt_log.proofs.Common.{◌≡◌, ℕ, ◌+◌, ◌≤◌, List, length, take, drop, get_or, slice_range, sym, ap, ◌∙◌, arith, get_or-between, Shape, row_len, head_of, body_at, row_of}
+use Rattle.silt_log.proofs.Common.{◌≡◌, ℕ, ◌+◌, ◌≤◌, List, length, take, drop, slice_range, sym, ap, ◌∙◌, arith, get_or-between, Shape, row_len, head_of, body_at, row_of}
 use Rattle.silt_log.specs.Rows.{row_at, row_head}
 use Rattle.silt_log.proofs.Parts.{slice_of_slice, drop_front}
 
@@ -16,18 +12,13 @@ head_read s region place at image head same fits read =
     let body : List ℕ = slice_range image at (at + len) in
     let long : 21 ≤ len = omega arith in
     let front : head ≡ slice_range body 0 21 = read ∙ ap (λ n. slice_range image n (n + 21)) (omega arith) ∙ slice_of_slice image at len 0 21 long fits in
-    let byte : get_or head 0 0 ≡ get_or body 0 0 = ap (λ (l : List ℕ). get_or l 0 0) front ∙ get_or-between body 0 21 0 0 (omega arith) in
-    let bytes : drop 1 head ≡ slice_range body 1 21 = ap (λ (l : List ℕ). drop 1 l) front ∙ drop_front body 1 20 in
-    ap (λ n. option_map {U = Kind × Key} (λ (k : Kind). (k, record { 0 = drop 1 head })) (kind_of n)) byte
-    ∙ ap (λ (b : List ℕ). option_map {U = Kind × Key} (λ (k : Kind). (k, record { 0 = b })) (kind_of (get_or body 0 0))) bytes
-    ∙ ap (λ n. row_head (row_of (slice_range image n (n + len)))) same
+    search (arith, get_or-between, drop_front)
 
 -- a body that was read holds the row
 pub body_read : (s : Shape) (region place at count : ℕ) (image bytes : List ℕ) → at ≡ body_at s region place → count ≡ row_len s
     → bytes ≡ slice_range image at (at + count) → row_of bytes ≡ row_at s region image place
 unfolding row_at
-body_read s region place at count image bytes same counted read =
-    ap row_of read ∙ ap (λ n. row_of (slice_range image at (at + n))) counted ∙ ap (λ n. row_of (slice_range image n (n + row_len s))) same
+body_read s region place at count image bytes same counted read = search arith
 
 -- the head of a front that was read is that of the row
 pub front_read : (s : Shape) (region place at count : ℕ) (image bytes head : List ℕ) → at ≡ body_at s region place

@@ -1,5 +1,5 @@
 -- The result of a read of a part of a body.
-use Rattle.silt_log.proofs.Common.{◌≡◌, ℕ, ◌+◌, ◌-◌, ◌≤◌, List, length, take, drop, slice_range, sym, ap, ◌∙◌, arith, length-drop, length-between, get_or-between, Shape, row_len, body_at}
+use Rattle.silt_log.proofs.Common.{◌≡◌, ℕ, ◌+◌, ◌-◌, ◌≤◌, List, length, take, drop, slice_range, ap, ◌∙◌, arith, length-drop, length-between, get_or-between, Shape, row_len, body_at}
 use Rattle.std.proofs.lemmas.List.{ext_get_or, get_or-drop, drop-take}
 use Rattle.silt_log.specs.Rows.{row_at}
 use Rattle.silt_log.proofs.Counts.{same_byte}
@@ -13,11 +13,7 @@ slice_of_slice image at len from count inside fits =
     let whole : length (slice_range image (at + from) (at + from + count)) ≡ at + from + count - (at + from) = length-between image (at + from) (at + from + count) (omega arith) in
     let of_part : length (slice_range part from (from + count)) ≡ from + count - from = length-between part from (from + count) (omega arith) in
     ext_get_or 0 (slice_range image (at + from) (at + from + count)) (slice_range part from (from + count)) (omega arith)
-    (λ place below.
-    get_or-between image (at + from) (at + from + count) place 0 (omega arith)
-    ∙ same_byte image (at + from + place) (at + (from + place)) (omega arith)
-    ∙ sym (get_or-between image at (at + len) (from + place) 0 (omega arith))
-    ∙ sym (get_or-between part from (from + count) place 0 (omega arith)))
+    (search (arith, get_or-between, same_byte))
 
 -- the end of a part
 pub slice_to_end : (image : List ℕ) (at len from count : ℕ) → from + count ≡ len → at + len ≤ length image
@@ -27,11 +23,7 @@ slice_to_end image at len from count inside fits =
     let part_long : length part ≡ at + len - at = length-between image at (at + len) fits in
     let whole : length (slice_range image (at + from) (at + from + count)) ≡ at + from + count - (at + from) = length-between image (at + from) (at + from + count) (omega arith) in
     ext_get_or 0 (slice_range image (at + from) (at + from + count)) (drop from part) (omega (arith, length-drop from part))
-    (λ place below.
-    get_or-between image (at + from) (at + from + count) place 0 (omega arith)
-    ∙ same_byte image (at + from + place) (at + (from + place)) (omega arith)
-    ∙ sym (get_or-between image at (at + len) (from + place) 0 (omega arith))
-    ∙ sym (get_or-drop from part place 0))
+    (search (arith, get_or-between, same_byte, get_or-drop))
 
 -- the key of a row
 pub key_read : (s : Shape) (region place at : ℕ) (image bytes : List ℕ) → at ≡ body_at s region place → at + row_len s ≤ length image
@@ -44,8 +36,7 @@ key_read s region place at image bytes here fits read =
 pub value_read : (s : Shape) (region place at count : ℕ) (image bytes : List ℕ) → at ≡ body_at s region place → at + row_len s ≤ length image
     → count ≡ s.value_len → bytes ≡ slice_range image (at + 21) (at + 21 + count) → bytes ≡ (row_at s region image place).value
 unfolding row_at
-value_read s region place at count image bytes here fits long read =
-    read ∙ slice_to_end image at (row_len s) 21 count (omega arith) fits ∙ ap (λ n. drop 21 (slice_range image n (n + row_len s))) here
+value_read s region place at count image bytes here fits long read = search (arith, slice_to_end)
 
 -- the front of a list without its own front
 pub drop_front : (l : List ℕ) (n m : ℕ) → drop n (slice_range l 0 (n + m)) ≡ slice_range l n (n + m)

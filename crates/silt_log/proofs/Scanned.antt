@@ -1,11 +1,10 @@
 -- The rows that a scan reads.
-use Rattle.silt_log.proofs.Common.{cond, ◌≡◌, ℕ, ◌+◌, ◌-◌, ◌*◌, ◌≤◌, ◌<◌, true, false, List, [], ◌∷◌, ◌++◌, length, map, drop, get_or, slice_range, Some, None, Result, Ok, Err, eqb, inl, inr, refl}
-use Rattle.silt_log.proofs.Common.{sym, ap, ◌∙◌, subst, arith, range_with_len, cases_Bool, cond-true, cond-false, eqb-true, false≢true, map-range_with_len_more, length-map-range_with_len}
-use Rattle.silt_log.proofs.Common.{length-between, get_or-between, kind_byte, kind_of, head_of, Key, Kind, Put, Delete, Row, ScanError, IsScanRefused, AreRows, FirstUnknown, body_row}
-use Rattle.silt_log.proofs.Common.{has_known_kind, StoredRow}
+use Rattle.silt_log.proofs.Common.{cond, ◌≡◌, ℕ, ◌+◌, ◌*◌, ◌≤◌, ◌<◌, true, false, List, [], ◌∷◌, ◌++◌, length, map, slice_range, Some, Result, Ok, Err, refl, sym, ap, ◌∙◌, subst, arith}
+use Rattle.silt_log.proofs.Common.{range_with_len, cases_Bool, cond-true, cond-false, eqb-true, false≢true, map-range_with_len_more, length-map-range_with_len, length-between}
+use Rattle.silt_log.proofs.Common.{get_or-between, kind_byte, kind_of, head_of, Key, Kind, Row, ScanError, IsScanRefused, AreRows, FirstUnknown, body_row, has_known_kind, StoredRow}
 use Rattle.std.proofs.Common.{below_more, is_some, option_map, is_ok, OnOk}
 use Rattle.std.proofs.lemmas.List.{map_push, map-id, length_push}
-use Rattle.silt_log.specs.declared.scan.ScanError.TheVariants.{Damaged, Device, NoMemory}
+use Rattle.silt_log.specs.declared.scan.ScanError.TheVariants.{Damaged}
 use Rattle.silt_log.specs.Rows.{IsRow}
 use Rattle.silt_log.proofs.Parts.{slice_of_slice, drop_front}
 
@@ -19,14 +18,7 @@ rows_none = record { kinds = refl; keys = refl; places = refl }
 
 -- one more row
 pub rows_push : (rows : List Row) (stored : List StoredRow) (row : Row) (next : StoredRow) → AreRows rows stored → IsRow (length stored) next row → AreRows (rows ++ row ∷ []) (stored ++ next ∷ [])
-rows_push rows stored row next are is = record {
-  kinds = map_push (λ (r : Row). kind_byte r.kind) rows row ∙ ap (λ (l : List ℕ). l ++ kind_byte row.kind ∷ []) are.kinds
-      ∙ ap (λ k. map (λ (r : StoredRow). r.kind) stored ++ k ∷ []) is.kind ∙ sym (map_push (λ (r : StoredRow). r.kind) stored next);
-  keys = map_push (λ (r : Row). r.key.0) rows row ∙ ap (λ (l : List (List ℕ)). l ++ row.key.0 ∷ []) are.keys
-      ∙ ap (λ (k : List ℕ). map (λ (r : StoredRow). r.key) stored ++ k ∷ []) is.key ∙ sym (map_push (λ (r : StoredRow). r.key) stored next);
-  places = map_push (λ (r : Row). r.place) rows row ∙ ap (λ (l : List ℕ). l ++ row.place ∷ []) are.places ∙ ap (λ k. range_with_len 0 (length stored) ++ k ∷ []) is.place
-      ∙ sym (range_more (length stored)) ∙ ap (range_with_len 0) (sym (length_push stored next));
-}
+rows_push rows stored row next are is = search (arith, map_push, range_more, length_push)
 
 -- one more of the rows in the bodies
 pub rows_more : (rows : List Row) (stored : ℕ → StoredRow) (row : Row) (n : ℕ) → AreRows rows (map stored (range_with_len 0 n))
@@ -48,23 +40,7 @@ on_ok_at (Err e) is holds = absurd (false≢true is)
 -- a kind that was read, by the two tests
 kind_by_tests : (byte : ℕ) (kind : Kind) (key rest : Key) → option_map {U = Kind × Key} (λ (k : Kind). (k, rest)) (kind_of byte) ≡ Some (kind, key)
     → (is_some (kind_of byte) ≡ true) × (kind_byte kind ≡ byte) × (rest ≡ key)
-kind_by_tests byte kind key rest read = elim (cases_Bool (eqb byte 1)) [
-  | inl one ↦
-      let is : byte ≡ 1 = eqb-true byte 1 one in
-      let known : kind_of byte ≡ Some Put = cond-true _ _ _ one in
-      let here : (Put, rest) ≡ (kind, key) = cc in
-      (ap is_some known, ap (λ (p : Kind × Key). kind_byte p.0) (sym here) ∙ sym is, ap (λ (p : Kind × Key). p.1) here)
-  | inr other ↦ elim (cases_Bool (eqb byte 2)) [
-    | inl two ↦
-        let is : byte ≡ 2 = eqb-true byte 2 two in
-        let known : kind_of byte ≡ Some Delete = cond-false _ _ _ other ∙ cond-true _ _ _ two in
-        let here : (Delete, rest) ≡ (kind, key) = cc in
-        (ap is_some known, ap (λ (p : Kind × Key). kind_byte p.0) (sym here) ∙ sym is, ap (λ (p : Kind × Key). p.1) here)
-    | inr neither ↦
-        let unknown : kind_of byte ≡ None = cond-false _ _ _ other ∙ cond-false _ _ _ neither in
-        absurd (cc)
-  ]
-]
+kind_by_tests byte kind key rest read = search (arith, cases_Bool, eqb-true, cond-true, cond-false)
 
 -- a row whose head was read
 pub row_read : (bodies len place : ℕ) (shown head : List ℕ) (kind : Kind) (key : Key) → bodies + place * len + len ≤ length shown
@@ -74,17 +50,7 @@ row_read bodies len place shown head kind key fits long read says =
     let at : ℕ = bodies + place * len in
     let body : List ℕ = slice_range shown at (at + len) in
     let front : head ≡ slice_range body 0 21 = read ∙ ap (λ n. slice_range shown n (n + 21)) (omega arith) ∙ slice_of_slice shown at len 0 21 long fits in
-    let rest : Key = record { 0 = drop 1 head } in
-    let parts = kind_by_tests (get_or head 0 0) kind key rest says in
-    let body_long : length body ≡ at + len - at = length-between shown at (at + len) fits in
-    let byte : get_or head 0 0 ≡ get_or body 0 0 = ap (λ (l : List ℕ). get_or l 0 0) front ∙ get_or-between body 0 21 0 0 (omega arith) in
-    let bytes : drop 1 head ≡ slice_range body 1 21 = ap (λ (l : List ℕ). drop 1 l) front ∙ drop_front body 1 20 in
-    record {
-      known = ap (λ n. is_some (kind_of n)) (sym byte) ∙ parts.0;
-      kind = parts.1 ∙ byte;
-      key = ap (λ (k : Key). k.0) (sym parts.2) ∙ bytes;
-      place = refl;
-    }
+    search (arith, kind_by_tests, length-between, get_or-between, drop_front)
 
 -- a weaker refusal for a damaged row
 pub refused_weaker : {F : Type 0} (strong weak : ℕ → Type 0) (was_given : F → Type 0) (error : ScanError F) → ((place : ℕ) → strong place → weak place)
@@ -95,17 +61,14 @@ refused_weaker strong weak was_given error step refused = refused
 -- the first row of an unknown kind, if all before it are of known kinds
 pub unknown_here : (stored : ℕ → StoredRow) (count place here : ℕ) → place < count → here ≡ place → has_known_kind (stored place) ≡ false
     → ((earlier : ℕ) → earlier < place → has_known_kind (stored earlier) ≡ true) → FirstUnknown stored count here
-unknown_here stored count place here below same unknown known =
-    subst (FirstUnknown stored count) (sym same) (record { counts = below; unknown = unknown; known = known })
+unknown_here stored count place here below same unknown known = search arith
 
 -- a refusal at this row, if all before it are of known kinds
 pub refused_here : {F : Type 0} (honest : Type 0) (stored : ℕ → StoredRow) (count place : ℕ) (was_given : F → Type 0) (error : ScanError F)
     → place < count → (honest → (earlier : ℕ) → earlier < place → has_known_kind (stored earlier) ≡ true)
     → IsScanRefused (λ damaged. (damaged ≡ place) × (honest → has_known_kind (stored place) ≡ false)) was_given error
     → IsScanRefused (λ damaged. honest → FirstUnknown stored count damaged) was_given error
-refused_here honest stored count place was_given error below known refused =
-    refused_weaker (λ damaged. (damaged ≡ place) × (honest → has_known_kind (stored place) ≡ false)) (λ damaged. honest → FirstUnknown stored count damaged) was_given error
-    (λ here damaged is. unknown_here stored count place here below damaged.0 (damaged.1 is) (known is)) refused
+refused_here honest stored count place was_given error below known refused = search (arith, refused_weaker, unknown_here)
 
 -- a list after a push that returned Ok
 pub pushed_ok : {X T E : Type 0} (answer : Result T E) (was now : List X) (x : X) → is_ok answer ≡ true → now ≡ cond (is_ok answer) (was ++ x ∷ []) was → now ≡ was ++ x ∷ []

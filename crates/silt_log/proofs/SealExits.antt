@@ -1,7 +1,7 @@
 -- The state at each exit of a seal.
-use Rattle.silt_log.proofs.Common.{◌≡◌, ℕ, ◌+◌, ◌-◌, ◌≤◌, ◌<◌, false, IsTrue, List, length, map, get_or, replicate, refl, sym, ap, ◌∙◌, subst, inl, inr, arith, prefix_len, range_with_len, cases_lt}
-use Rattle.silt_log.proofs.Common.{false≢true, get_or-replicate, length-replicate, Content, Torn, LeavesOnly, ChangesWithin, Writes, Rests, size, splice, row_len, commits_at, bodies_at, device_size}
-use Rattle.silt_log.proofs.Common.{rests_leaves, torn_splice, splice_byte, is_open, CommitsAre, commit_bytes, body_row, LogState, InBounds, settled_rows, Seals}
+use Rattle.silt_log.proofs.Common.{◌≡◌, ℕ, ◌+◌, ◌-◌, ◌≤◌, ◌<◌, false, IsTrue, List, length, get_or, replicate, refl, sym, ap, ◌∙◌, subst, inl, inr, arith, prefix_len, cases_lt}
+use Rattle.silt_log.proofs.Common.{get_or-replicate, length-replicate, Content, Torn, LeavesOnly, ChangesWithin, Writes, Rests, size, splice, commits_at, device_size, rests_leaves}
+use Rattle.silt_log.proofs.Common.{torn_splice, splice_byte, is_open, CommitsAre, commit_bytes, LogState, InBounds, settled_rows, Seals}
 use Rattle.silt_disk.proofs.Images.{left_at_rest}
 use Rattle.silt_log.specs.Rows.{rows_from, row_at, log_rows, open_count, has_stale_commit}
 use Rattle.silt_log.specs.State.{IsScanned}
@@ -14,15 +14,15 @@ module _ (commits count : ℕ) (old : List ℕ) (fits : commits + count ≤ leng
   pub counted_same : (image : List ℕ) (n long : ℕ) → n ≡ prefix_len is_open (commit_bytes commits count old) → n < count
       → Torn (commits + n + 1) long old image → prefix_len is_open (commit_bytes commits count image) ≡ n
   counted_same image n long counted room torn =
-      let between = count_between commits count image (omega (arith, torn.size)) n n (omega arith) (omega arith)
-      (λ place below. ap is_open (torn.before (commits + place) (omega arith)) ∙ counted_open commits count old fits place (omega arith))
-      (λ below.
+      let between = count_between commits count image (omega (arith, torn.size)) n n (omega arith) (omega arith) (λ place below. ap is_open (torn.before
+      (commits + place) (omega arith)) ∙ counted_open commits count old fits place (omega arith)) (λ below.
       let first : is_open (get_or old (commits + n) 0) ≡ false = ap (λ k. is_open (get_or old (commits + k) 0)) counted ∙ first_closed commits count old fits (omega arith) in
       ap is_open (torn.before (commits + n) (omega arith)) ∙ first) in
       omega (arith, between.0, between.1)
 
   -- zeros over all commit bytes past the first closed one
-  pub sealed_commits : (n more : ℕ) → n ≡ prefix_len is_open (commit_bytes commits count old) → n < count → more ≡ count - (n + 1) → CommitsAre commits count n (splice (commits + n + 1) (replicate more 0) old)
+  pub sealed_commits : (n more : ℕ) → n ≡ prefix_len is_open (commit_bytes commits count old) → n < count → more ≡ count - (n + 1) → CommitsAre commits count n (splice
+      (commits + n + 1) (replicate more 0) old)
   sealed_commits n more counted room rest =
       let zeros : List ℕ = replicate more 0 in
       let long : length zeros ≡ more = length-replicate more 0 in
@@ -50,23 +50,19 @@ module _ (old new : Content) (log : LogState) (bounds : InBounds log) (fits : de
       → log_rows log.shape log.region image ≡ log_rows log.shape log.region old.shown
   unfolding log_rows rows_from row_at open_count
   seal_torn image long honest room rest torn =
-      let place = region_lies log.shape log.region (size old) bounds.region fits in
+      let place = region_lies _ _ _ bounds.region fits in
       let low : commits_at log.shape log.region ≤ commits_at log.shape log.region + log.used + 1 = omega arith in
       let high : commits_at log.shape log.region + log.used + 1 + long ≤ commits_at log.shape log.region + log.shape.log_capacity = omega (arith, room, rest) in
-      ap (λ n. map (body_row (bodies_at log.shape log.region) (row_len log.shape) image) (range_with_len 0 n))
-      (counted_same _ _ old.shown seal_within image log.used long (scanned honest).used room torn)
-      ∙ commits_torn_rows _ _ _ _ _ place (commits_at log.shape log.region + log.used + 1) long 0 log.used old.shown image refl low high (omega (arith, room)) torn
-      ∙ ap (λ n. map (body_row (bodies_at log.shape log.region) (row_len log.shape) old.shown) (range_with_len 0 n)) (scanned honest).used
+      cc (
+        counted_same _ _ old.shown seal_within image log.used long (scanned honest).used room torn,
+        commits_torn_rows _ _ _ _ _ place (commits_at log.shape log.region + log.used + 1) long 0 log.used old.shown image refl low high (omega (arith, room)) torn,
+        (scanned honest).used,
+      )
 
   -- at each exit
   pub seal_images : (long : ℕ) → log.used < log.shape.log_capacity → long ≡ log.shape.log_capacity - (log.used + 1) → ChangesWithin (commits_at log.shape log.region + log.used + 1) long old new
       → LeavesOnly new (λ image. log_rows log.shape log.region image ≡ log_rows log.shape log.region old.shown)
-  seal_images long room rest changes = record {
-    each = λ honest image left.
-        let was : IsTrue old.honest = sym changes.honest ∙ honest in
-        let from = changes.left was image left in
-        seal_torn image long was room rest (subst (λ before. Torn (commits_at log.shape log.region + log.used + 1) long before image) (left_at_rest rests was from.0 from.1) from.2);
-  }
+  seal_images long room rest changes = record { each = search (arith, seal_torn, left_at_rest, changes.left) }
 
   -- at the exit with Ok, if a commit byte past the first closed one was open
   pub seal_done : (more : ℕ) → log.used < log.shape.log_capacity → more ≡ log.shape.log_capacity - (log.used + 1) → size new ≡ size old
@@ -77,7 +73,7 @@ module _ (old new : Content) (log : LogState) (bounds : InBounds log) (fits : de
       let after : LogState = record log { stale = false } in
       let place = region_lies log.shape log.region (size old) bounds.region fits in
       let fits_new = fits_resized log.shape old new fits same in
-      let bounds_new : InBounds after = record { region = bounds.region; order = bounds.order; room = bounds.room; gap = λ stale. absurd (false≢true stale) } in
+      let bounds_new : InBounds after = search arith in
       let zeros : List ℕ = replicate more 0 in
       let long : length zeros ≡ more = length-replicate more 0 in
       let low : commits_at log.shape log.region ≤ commits_at log.shape log.region + log.used + 1 = omega arith in
@@ -87,8 +83,7 @@ module _ (old new : Content) (log : LogState) (bounds : InBounds log) (fits : de
       let counted : log.settled ≡ log.used = (scanned honest).settled ∙ sym (scanned honest).used in
       let torn = torn_splice (commits_at log.shape log.region + log.used + 1) zeros old.shown within in
       let are : CommitsAre (commits_at log.shape log.region) log.shape.log_capacity log.settled (splice (commits_at log.shape log.region + log.used + 1) zeros old.shown) =
-      subst (λ n. CommitsAre (commits_at log.shape log.region) log.shape.log_capacity n (splice (commits_at log.shape log.region + log.used + 1) zeros old.shown))
-      (sym counted) (sealed_commits _ _ old.shown seal_within log.used more (scanned honest).used room rest) in
+      search (arith, sealed_commits, seal_within) in
       subst (StandsIn new after (settled_rows old log)) (sym (writes.shown honest)) (record {
         long = torn.size ∙ sym same;
         are = are;
@@ -108,13 +103,8 @@ module _ (old : Content) (log : LogState) (bounds : InBounds log) (fits : device
   pub quiet_done : log.stale ≡ false → Seals old old log log
   unfolding has_stale_commit rows_from row_at open_count
   quiet_done tight =
-      let within : commits_at log.shape log.region + log.shape.log_capacity ≤ length old.shown = commits_within _ _ _ _ _ (region_lies log.shape log.region (size old) bounds.region fits) old.shown refl in
-      let stands : IsTrue old.honest → StandsIn old log (settled_rows old log) old.shown = λ honest. record {
-        long = refl;
-        are = subst (λ n. CommitsAre (commits_at log.shape log.region) log.shape.log_capacity n old.shown) (sym (scanned honest).settled)
-            (commits_counted _ _ old.shown within (sym (scanned honest).stale ∙ tight));
-        hold = refl;
-      } in
+      let within : commits_at log.shape log.region + log.shape.log_capacity ≤ length old.shown = search (arith, commits_within, region_lies) in
+      let stands : IsTrue old.honest → StandsIn old log (settled_rows old log) old.shown = search (arith, commits_counted) in
       record {
         log = ap (λ stale. record log { stale = stale }) tight;
         stands = log_from old log (settled_rows old log) bounds tight fits (rests_leaves rests (record { holds = stands }));

@@ -1,6 +1,6 @@
 -- One write after another.
-use Rattle.silt_log.proofs.Common.{◌≡◌, ℕ, ◌+◌, ◌-◌, ◌≤◌, List, ◌++◌, length, take, drop, replicate, sym, ap, ◌∙◌, subst, inl, inr, arith, length-append, length-take-le, cases_lt, Content, Torn}
-use Rattle.silt_log.proofs.Common.{ChangesWithin, Writes, size, splice, torn_splice, splice_byte, Key, Kind, row_of}
+use Rattle.silt_log.proofs.Common.{◌≡◌, ℕ, ◌+◌, ◌-◌, ◌≤◌, List, ◌++◌, length, take, drop, replicate, sym, ap, ◌∙◌, subst, inl, inr, arith, length-append, length-take-le, cases_lt, Content}
+use Rattle.silt_log.proofs.Common.{Torn, ChangesWithin, Writes, size, splice, torn_splice, splice_byte, Key, Kind, row_of}
 use Rattle.std.proofs.Common.{ext_get_or, append_assoc, take_at, drop_at, drop-drop}
 use Rattle.silt_frame.specs.Frame.{head_bytes}
 use Rattle.silt_frame.specs.Rows.{stored_row}
@@ -12,14 +12,12 @@ spliced_over at bytes old new fits torn =
     let fits_new : at + length bytes ≤ length new = omega (arith, torn.size) in
     let over_old = torn_splice at bytes old fits in
     let over_new = torn_splice at bytes new fits_new in
-    ext_get_or 0 (splice at bytes new) (splice at bytes old) (over_new.size ∙ torn.size ∙ sym over_old.size)
-    (λ place _. elim (cases_lt place at) [
+    ext_get_or 0 (splice at bytes new) (splice at bytes old) (over_new.size ∙ torn.size ∙ sym over_old.size) (λ place _. elim (cases_lt place at) [
       | inl low ↦ over_new.before place low ∙ torn.before place low ∙ sym (over_old.before place low)
       | inr high ↦ elim (cases_lt place (at + length bytes)) [
         | inl inside ↦
             let here : place ≡ at + (place - at) = omega arith in
-            same_byte (splice at bytes new) place (at + (place - at)) here ∙ splice_byte at bytes new (place - at) fits_new (omega arith)
-            ∙ sym (same_byte (splice at bytes old) place (at + (place - at)) here ∙ splice_byte at bytes old (place - at) fits (omega arith))
+            search (arith, same_byte, splice_byte)
         | inr past ↦ over_new.after place past ∙ torn.after place past ∙ sym (over_old.after place past)
       ]
     ])
@@ -39,16 +37,11 @@ spliced_twice at first second image fits =
 -- two writes that follow each other, each with Ok
 pub both_written : (at : ℕ) (first second : List ℕ) (old between new : Content) → at + (length first + length second) ≤ size old
     → Writes at first old between → Writes (at + length first) second between new → Writes at (first ++ second) old new
-both_written at first second old between new fits writes later = record {
-  honest = later.honest ∙ writes.honest;
-  shown = λ honest.
-      cc (later.shown (writes.honest ∙ honest), writes.shown honest, spliced_twice at first second old.shown (omega arith));
-}
+both_written at first second old between new fits writes later = search (arith, spliced_twice, later.shown, writes.shown)
 
 -- a change of a range under another name
 pub within_at : (at count at_other count_other : ℕ) (old new : Content) → at ≡ at_other → count ≡ count_other → ChangesWithin at count old new → ChangesWithin at_other count_other old new
-within_at at count at_other count_other old new same_at same_count changes =
-    subst (λ n. ChangesWithin at_other n old new) same_count (subst (λ n. ChangesWithin n count old new) same_at changes)
+within_at at count at_other count_other old new same_at same_count changes = search arith
 
 -- a write to a place under another name
 pub writes_at : (at at_other : ℕ) (bytes : List ℕ) (old new : Content) → at ≡ at_other → Writes at bytes old new → Writes at_other bytes old new
@@ -57,8 +50,7 @@ writes_at at at_other bytes old new same writes = subst (λ n. Writes n bytes ol
 -- a write of one byte to some places under another name
 pub fills_at : (at at_other count count_other byte : ℕ) (old new : Content) → at ≡ at_other → count ≡ count_other
     → Writes at (replicate count byte) old new → Writes at_other (replicate count_other byte) old new
-fills_at at at_other count count_other byte old new same_at same_count writes =
-    writes_at at at_other (replicate count_other byte) old new same_at (subst (λ n. Writes at (replicate n byte) old new) same_count writes)
+fills_at at at_other count count_other byte old new same_at same_count writes = search (arith, writes_at)
 
 -- the row of a head and a value
 pub row_of_parts : (kind : Kind) (key : Key) (head value : List ℕ) → head ≡ head_bytes kind key → length head ≡ 21 → row_of (head ++ value) ≡ stored_row kind key value

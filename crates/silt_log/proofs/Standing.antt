@@ -1,6 +1,6 @@
 -- Images that have the rows of a log.
-use Rattle.silt_log.proofs.Common.{◌≡◌, ℕ, ◌+◌, ◌-◌, ◌*◌, ◌≤◌, ◌<◌, List, length, map, replicate, ap, ◌∙◌, inl, inr, arith, prefix_len, range_with_len, cases_lt, get_or-replicate, length-replicate}
-use Rattle.silt_log.proofs.Common.{Torn, splice, torn_splice, splice_byte, is_open, CommitsAre, commit_bytes, body_row, StoredRow}
+use Rattle.silt_log.proofs.Common.{◌≡◌, ℕ, ◌+◌, ◌-◌, ◌*◌, ◌≤◌, ◌<◌, List, length, map, replicate, ap, ◌∙◌, inl, inr, arith, prefix_len, range_with_len, cases_lt, get_or-replicate}
+use Rattle.silt_log.proofs.Common.{length-replicate, Torn, splice, torn_splice, splice_byte, is_open, CommitsAre, commit_bytes, body_row, StoredRow}
 use Rattle.silt_log.proofs.Counts.{same_byte, count_is, count_between, torn_commits}
 use Rattle.silt_log.proofs.Bodies.{rows_below, rows_behind}
 
@@ -65,6 +65,5 @@ module _ (commits count bodies len whole : ℕ) (lies : Lies commits count bodie
   -- a write over the commit bytes of the waiting rows leaves the rows and a prefix of these
   pub commits_torn : (n more : ℕ) (rows : List StoredRow) (before after : List ℕ) → n + more ≤ count → Stands commits count bodies len whole n rows before → Torn (commits + n) more before after
       → (n ≤ prefix_len is_open (commit_bytes commits count after)) × (prefix_len is_open (commit_bytes commits count after) ≤ n + more)
-  commits_torn n more rows before after most stands torn = count_between commits count after (commits_within after (torn.size ∙ stands.long)) n (n + more) (omega arith) most
-      (λ place below. ap is_open (torn.before (commits + place) (omega arith)) ∙ stands.are.opened place below)
-      (λ below. ap is_open (torn.after (commits + (n + more)) (omega arith)) ∙ stands.are.closed (n + more) (omega arith) below)
+  commits_torn n more rows before after most stands torn = count_between commits count after (commits_within after (torn.size ∙ stands.long)) n (n + more)
+      (omega arith) most (search (arith, torn.before, stands.are.opened)) (search (arith, torn.after, stands.are.closed))

@@ -1,5 +1,5 @@
 -- For the crates above: the rows that wait after each call.
-use Rattle.silt_log.proofs.Common.{◌≡◌, ◌-◌, ◌≤◌, IsTrue, List, [], ◌++◌, sym, ap, ◌∙◌, arith, append-nil, Content, StoredRow, LogState, IsLog, settled_rows, waiting_rows, all_rows, KeepsRows}
+use Rattle.silt_log.proofs.Common.{◌≡◌, ◌≤◌, IsTrue, List, [], ◌++◌, sym, ◌∙◌, arith, append-nil, Content, StoredRow, LogState, IsLog, settled_rows, waiting_rows, all_rows, KeepsRows}
 use Rattle.std.proofs.lemmas.List.{append_assoc, append_cancel_left}
 use Rattle.silt_log.specs.Rows.{rows_from}
 use Rattle.silt_log.proofs.Elsewhere.{all_are_settled_and_waiting}
@@ -8,8 +8,7 @@ use Rattle.silt_log.proofs.Elsewhere.{all_are_settled_and_waiting}
 waiting_from : (old new : Content) (before after : LogState) (more : List StoredRow) → before.settled ≤ before.used → after.settled ≤ after.used
     → settled_rows new after ≡ settled_rows old before → all_rows new after ≡ all_rows old before ++ more
     → waiting_rows new after ≡ waiting_rows old before ++ more
-waiting_from old new before after more order order_after settled all = append_cancel_left (settled_rows old before) (waiting_rows new after) (waiting_rows old before ++ more)
-    (cc (all_are_settled_and_waiting new after order_after, all_are_settled_and_waiting old before order, append_assoc (settled_rows old before) (waiting_rows old before) more))
+waiting_from old new before after more order order_after settled all = search (arith, append_cancel_left, all_are_settled_and_waiting, append_assoc)
 
 -- if the log is unchanged, the same rows wait
 pub waiting_kept : (old new : Content) (before after : LogState) → IsLog old before → IsTrue old.honest → KeepsRows old new before after → waiting_rows new after ≡ waiting_rows old before
@@ -20,6 +19,4 @@ waiting_kept old new before after is honest keeps =
 -- once the commit bytes are open no row waits
 pub none_waiting : (content : Content) (log : LogState) → log.settled ≡ log.used → waiting_rows content log ≡ []
 unfolding rows_from
-none_waiting content log same =
-    let none : log.used - log.settled ≡ 0 = omega arith in
-    ap (λ n. rows_from log.shape log.region content.shown log.settled n) none
+none_waiting content log same = search arith
