@@ -2,7 +2,7 @@
 use Rattle.silt_merge.proofs.Common.{◌≡◌, ◌≢◌, ℕ, ◌<◌, nat_lt, Bool, true, false, List, [], length, slice_get, Option, Some, None, option_map, inl, inr, refl, sym, subst, ap, ◌∙◌, Ordering}
 use Rattle.silt_merge.proofs.Common.{Less, Equal, Greater, slice_cmp, exact_bytes, slice_get_within, Key, entry_row, StoredRow, key_of_row, key_at, IsNextEntry, is_above, is_behind}
 use Rattle.silt_merge.proofs.Common.{source_at, Choice, Source}
-use Rattle.std.proofs.Common.{not, is_some, lt-ltb}
+use Rattle.std.proofs.Common.{is_some, lt-ltb, arith}
 use Rattle.std.specs.Ordering.{match_ordering, nat_cmp}
 use Rattle.std.specs.Cmp.Lexicographic.{nat_list_cmp_total}
 use Rattle.silt_sorted_store.proofs.Rising.{not_below_itself}
@@ -17,51 +17,28 @@ not_both : (a b : List ℕ) → slice_cmp nat_cmp a b ≡ Less → slice_cmp nat
 not_both a b less other = not_below_itself a a refl (nat_list_cmp_total.trans a b a less other)
 
 -- the choice of a row that waits
-offered_row : (waiting : List (Key × Source)) (last : Option Key) (key : Key) (source : Source) (choice : Choice)
-    → IsFirstWaiting waiting (Some (key, source)) → ((key : List ℕ) (its : Source) → source_at waiting key ≡ Some its → is_above last key ≡ true)
-    → choice.key ≡ key → choice.source ≡ Some source → IsOffered waiting last choice
-offered_row waiting last key source choice is above its_key its_source = record {
-  source = λ other same. cc (is.0);
-  none = λ none. absurd (cc);
-  least = λ other its waits less. is.1 other its waits (ap (λ (k : Key). slice_cmp nat_cmp other k.0) (sym its_key) ∙ less);
-  above = ap (λ (k : Key). is_above last k.0) its_key ∙ above key.0 source is.0;
-}
+offered_row : (waiting : List (Key × Source)) (last : Option Key) (key : Key) (source : Source) (choice : Choice) → IsFirstWaiting waiting (Some (key, source))
+    → ((key : List ℕ) (its : Source) → source_at waiting key ≡ Some its → is_above last key ≡ true) → choice.key ≡ key → choice.source ≡ Some source → IsOffered waiting last choice
+offered_row waiting last key source choice is above its_key its_source = search (arith, is.1)
 
 -- that of the next entry, which is below each row
-offered_entry : (waiting : List (Key × Source)) (last : Option Key) (next : Key) (choice : Choice) → choice.key ≡ next → choice.source ≡ None
-    → choice.passes ≡ true → is_behind last (Some next) ≡ false
-    → ((key : List ℕ) (its : Source) → source_at waiting key ≡ Some its → slice_cmp nat_cmp key next.0 ≢ Less) → IsOffered waiting last choice
-offered_entry waiting last next choice its_key none passes ahead least = record {
-  source = λ other is. absurd (cc);
-  none = λ same. passes;
-  least = λ other its waits less. least other its waits (ap (λ (k : Key). slice_cmp nat_cmp other k.0) (sym its_key) ∙ less);
-  above = cc (not_false (is_above last next.0) ahead);
-}
-  where
-    not_false : (b : Bool) → not b ≡ false → b ≡ true
-    not_false true is = refl
-    not_false false is = absurd (cc)
+offered_entry : (waiting : List (Key × Source)) (last : Option Key) (next : Key) (choice : Choice) → choice.key ≡ next → choice.source ≡ None → choice.passes ≡ true
+    → is_behind last (Some next) ≡ false → ((key : List ℕ) (its : Source) → source_at waiting key ≡ Some its → slice_cmp nat_cmp key next.0 ≢ Less) → IsOffered waiting last choice
+offered_entry waiting last next choice its_key none passes ahead least = search arith
 
 -- the choice of the lower of two keys
 lower_is : (key : Key) (source : Source) (next : Key) (o : Ordering) → slice_cmp nat_cmp key.0 next.0 ≡ o
     → lower_choice key source next ≡ match_ordering o (record { key = key; source = Some source; passes = false })
     (record { key = key; source = Some source; passes = true }) (record { key = next; source = None; passes = true })
-lower_is key source next o is =
-    ap (λ (p : Ordering). let it : Choice = match_ordering p (record { key = key; source = Some source; passes = false })
-    (record { key = key; source = Some source; passes = true }) (record { key = next; source = None; passes = true }) in it) is
+lower_is key source next o is = search arith
 
 -- what is chosen is offered
 pub offered : (waiting : List (Key × Source)) (last : Option Key) (first : Option (Key × Source)) (next : Option Key) (choice : Choice)
     → IsFirstWaiting waiting first → choice_of first next ≡ Some choice → is_behind last next ≡ false
     → ((key : List ℕ) (its : Source) → source_at waiting key ≡ Some its → is_above last key ≡ true) → IsOffered waiting last choice
 offered waiting last None None choice is chosen ahead above = absurd (cc)
-offered waiting last None (Some next) choice is chosen ahead above =
-    let it : record { key = next; source = None; passes = true } ≡ choice = cc in
-    rw it at (offered_entry waiting last next (record { key = next; source = None; passes = true }) refl refl refl ahead (λ key its waits. let none : source_at waiting
-    key ≡ None = ap (λ l. source_at l key) is in absurd (cc)))
-offered waiting last (Some (key, source)) None choice is chosen ahead above =
-    let it : record { key = key; source = Some source; passes = false } ≡ choice = cc in
-    rw it at (offered_row waiting last key source (record { key = key; source = Some source; passes = false }) is above refl refl)
+offered waiting last None (Some next) choice is chosen ahead above = search (arith, offered_entry)
+offered waiting last (Some (key, source)) None choice is chosen ahead above = search (arith, offered_row)
 offered waiting last (Some (key, source)) (Some next) choice is chosen ahead above =
     let it : lower_choice key source next ≡ choice = cc in
     let go : (o : Ordering) → slice_cmp nat_cmp key.0 next.0 ≡ o → IsOffered waiting last (lower_choice key source next) = elim [
@@ -74,12 +51,7 @@ offered waiting last (Some (key, source)) (Some next) choice is chosen ahead abo
 
 -- an entry is skipped only if there is one
 pub passes_next : (first : Option (Key × Source)) (next : Option Key) (choice : Choice) → choice_of first next ≡ Some choice → choice.passes ≡ true → is_some next ≡ true
-passes_next None None choice chosen passes = absurd (cc)
-passes_next first (Some next) choice chosen passes = refl
-passes_next (Some (key, source)) None choice chosen passes =
-    let it : record { key = key; source = Some source; passes = false } ≡ choice = cc in
-    let none : false ≡ choice.passes = ap (λ (c : Choice). c.passes) it in
-    absurd (cc)
+passes_next first next choice chosen passes = search (arith, chosen)
 
 -- ---- on an honest disk
 
@@ -149,9 +121,8 @@ module _ (entries : List StoredRow) (passed : ℕ) (bytes : List ℕ) (row_of : 
     entry = λ none. absurd (cc);
   }
 
-  pub chosen : (first : Option (Key × Source)) (next : Option Key) (choice : Choice) → IsFirstWaiting waiting first
-      → IsNextEntry entries passed bytes next → is_some next ≡ nat_lt passed (length entries)
-      → choice_of first next ≡ Some choice → IsChosen entries passed bytes row_of waiting choice
+  pub chosen : (first : Option (Key × Source)) (next : Option Key) (choice : Choice) → IsFirstWaiting waiting first → IsNextEntry entries passed bytes next
+      → is_some next ≡ nat_lt passed (length entries) → choice_of first next ≡ Some choice → IsChosen entries passed bytes row_of waiting choice
   chosen None None choice is there some made = absurd (cc)
   chosen None (Some next) choice is there some made =
       let it : record { key = next; source = None; passes = true } ≡ choice = cc in
@@ -163,12 +134,10 @@ module _ (entries : List StoredRow) (passed : ℕ) (bytes : List ℕ) (row_of : 
       let it : lower_choice key source next ≡ choice = cc in
       let at = next_there next there in
       let go : (o : Ordering) → slice_cmp nat_cmp key.0 next.0 ≡ o → IsChosen entries passed bytes row_of waiting (lower_choice key source next) = elim [
-        | Less ↦ λ o. subst (IsChosen entries passed bytes row_of waiting) (sym (lower_is key source next Less o)) (chosen_row key source false is (λ below
-            less. not_both key.0 next.0 o (ap (λ k. slice_cmp nat_cmp k key.0) (sym at.1) ∙ less)) (λ same. absurd (cc)) (λ same below. ap (slice_cmp nat_cmp key.0)
-            at.1 ∙ o))
-        | Equal ↦ λ o. subst (IsChosen entries passed bytes row_of waiting) (sym (lower_is key source next Equal o)) (chosen_row key source true is (λ below
-            less. not_below_itself _ key.0 (at.1 ∙ sym (exact_bytes key.0 next.0 o)) less) (λ same. (at.0, at.1 ∙ sym (exact_bytes key.0 next.0 o))) (λ same. absurd
-            (cc)))
+        | Less ↦ λ o. subst (IsChosen entries passed bytes row_of waiting) (sym (lower_is key source next Less o)) (chosen_row key source false is (λ below less. not_both key.0 next.0 o (ap
+            (λ k. slice_cmp nat_cmp k key.0) (sym at.1) ∙ less)) (λ same. absurd (cc)) (λ same below. ap (slice_cmp nat_cmp key.0) at.1 ∙ o))
+        | Equal ↦ λ o. subst (IsChosen entries passed bytes row_of waiting) (sym (lower_is key source next Equal o)) (chosen_row key source true is (λ below less. not_below_itself _ key.0
+            (at.1 ∙ sym (exact_bytes key.0 next.0 o)) less) (λ same. (at.0, at.1 ∙ sym (exact_bytes key.0 next.0 o))) (λ same. absurd (cc)))
         | Greater ↦ λ o. rw (← (lower_is key source next Greater o)) at (chosen_entry next there (λ other its waits_for. below_all key.0 next.0 other (turned key.0 next.0
             o) (is.1 other its waits_for)))
       ] in

@@ -1,7 +1,7 @@
 -- There are as many entries as keys with a value.
 use Rattle.silt_merge.proofs.Common.{◌≡◌, ℕ, Bool, true, false, cond, List, [], ◌∷◌, filter, length, map, Some, option_map, refl, sym, subst, ap, ◌∙◌, bytes_eq, slice_cmp, cond-true}
 use Rattle.silt_merge.proofs.Common.{length-map, is_eq-slice_cmp, StoredRow, is_put_row, newest_rows}
-use Rattle.std.proofs.Common.{T, option_and_then}
+use Rattle.std.proofs.Common.{T, option_and_then, arith}
 use Rattle.std.specs.Ordering.{eq_by_cmp, is_lt, nat_cmp}
 use Rattle.std.specs.FinMap.{entries-from_sorted, from_sorted, get-from_sorted, len, len-entries, same_map, slice_cmp-IsAntisymmetric, nat_cmp-IsAntisymmetric}
 use Rattle.std.specs.FinMap.Entries.{below_all, find, is_sorted}
@@ -43,21 +43,7 @@ find_pairs (row ∷ rows) key =
 put_values : (rows : List StoredRow) (key : List ℕ) → option_and_then value_given (row_with key (filter is_put_row rows)) ≡ option_map
     (λ (r : StoredRow). r.value) (row_with key (filter is_put_row rows))
 put_values [] key = refl
-put_values (row ∷ rows) key =
-    let further = put_values rows key in
-    let here : is_put_row row ≡ true → (b : Bool) → option_and_then value_given (cond b (Some row) (row_with key (filter is_put_row rows))) ≡ option_map (λ (r :
-    StoredRow). r.value) (cond b (Some row) (row_with key (filter is_put_row rows))) = λ put b. elim b as (λ b. option_and_then value_given (cond b (Some row)
-    (row_with key (filter is_put_row rows))) ≡ option_map (λ (r : StoredRow). r.value) (cond b (Some row) (row_with key (filter is_put_row rows)))) [
-      | true ↦ cond-true _ _ _ put
-      | false ↦ further
-    ] in
-    let go : (p : Bool) → is_put_row row ≡ p → option_and_then value_given (row_with key (filter is_put_row (row ∷ rows))) ≡ option_map
-    (λ (r : StoredRow). r.value) (row_with key (filter is_put_row (row ∷ rows))) = elim [
-      | true ↦ λ put. subst (λ l. option_and_then value_given (row_with key l) ≡ option_map (λ (r : StoredRow). r.value) (row_with key l))
-          (sym (put_first row rows put)) (here put (bytes_eq row.key key))
-      | false ↦ λ other. rw (← (no_put_first row rows other)) at further
-    ] in
-    go (is_put_row row) refl
+put_values (row ∷ rows) key = search (arith, put_values rows key, cond-true, put_first, no_put_first)
 
 -- the map of the newest rows that are puts has an entry for each
 pub merged_count : MergedCountLaw

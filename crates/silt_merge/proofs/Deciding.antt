@@ -34,15 +34,14 @@ above_found key (first ∷ rest) asked row above is =
 -- a row at a place is that of its key
 pub find_at : (rows : List StoredRow) (place : ℕ) (row : StoredRow) → Rises rows → slice_get rows place ≡ Some row → row_with row.key rows ≡ Some row
 find_at [] place row rises there = absurd (cc)
-find_at (first ∷ rest) zero row rises there = let same : first ≡ row = cc in cond-true _ _ _ (key_itself first.key row.key (ap (λ (r : StoredRow). r.key) same)) ∙ ap Some same
-find_at (first ∷ rest) (suc place) row rises there = cond-false _ _ _ (key_below first.key row.key (above_there first.key rest place row rises.0 there)) ∙ find_at rest place row rises.1 there
+find_at (first ∷ rest) zero row rises there = search (arith, cond-true, key_itself)
+find_at (first ∷ rest) (suc place) row rises there = search (arith, find_at rest place row rises.1 there, cond-false, key_below, above_there)
 
 -- and no row before it has its key
 pub none_before : (rows : List StoredRow) (place : ℕ) (row : StoredRow) → Rises rows → slice_get rows place ≡ Some row → has_row_with row.key (take place rows) ≡ false
 none_before [] place row rises there = absurd (cc)
 none_before (first ∷ rest) zero row rises there = refl
-none_before (first ∷ rest) (suc place) row rises there =
-    cc (key_below first.key row.key (above_there first.key rest place row rises.0 there), none_before rest place row rises.1 there)
+none_before (first ∷ rest) (suc place) row rises there = cc (key_below first.key row.key (above_there first.key rest place row rises.0 there), none_before rest place row rises.1 there)
 
 -- the row of a key has a place
 pub place_found : (key : List ℕ) (rows : List StoredRow) (row : StoredRow) → row_with key rows ≡ Some row → (place : ℕ) × (slice_get rows place ≡ Some row) × (row.key ≡ key)
@@ -60,26 +59,14 @@ place_found key (first ∷ rest) row is =
 -- a row is found exactly if one has the key
 pub found_where_has : (key : List ℕ) (rows : List StoredRow) → has_row_with key rows ≡ is_some (row_with key rows)
 found_where_has key [] = refl
-found_where_has key (first ∷ rest) =
-    let further = found_where_has key rest in
-    let go : (b : Bool) → (b || has_row_with key rest) ≡ is_some (cond b (Some first) (row_with key rest)) = elim [ true ↦ refl | false ↦ further ] in
-    go _
+found_where_has key (first ∷ rest) = search (arith, found_where_has key rest)
 
 -- a key that is not among the first rows is that of the next one, or above it
 pub next_at : (rows : List StoredRow) (count : ℕ) (key : List ℕ) (found : StoredRow) → Rises rows → row_with key rows ≡ Some found → has_row_with key (take count rows) ≡ false
     → (row : StoredRow) × (slice_get rows count ≡ Some row) × ((row.key ≡ key) ⊎ (slice_cmp nat_cmp row.key key ≡ Less))
 next_at [] count key found rises is none = absurd (cc)
-next_at (first ∷ rest) zero key found rises is none = (
-  first,
-  refl,
-  elim (cases_Bool (bytes_eq first.key key)) [
-    | inl same ↦ inl (key_is _ key same)
-    | inr other ↦ inr (above_found _ rest key found rises.0 (sym (cond-false _ _ _ other) ∙ is))
-  ],
-)
-next_at (first ∷ rest) (suc count) key found rises is none =
-    let both = or_parts (bytes_eq first.key key) (has_row_with key (take count rest)) none in
-    next_at rest count key found rises.1 (sym (cond-false _ _ _ both.0) ∙ is) both.1
+next_at (first ∷ rest) zero key found rises is none = search (arith, cases_Bool, key_is, above_found, cond-false)
+next_at (first ∷ rest) (suc count) key found rises is none = search (arith, next_at rest count key found rises.1, or_parts, cond-false)
 
 -- the first rows and one more
 take_one : (rows : List StoredRow) (count : ℕ) (row : StoredRow) → slice_get rows count ≡ Some row → take (count + 1) rows ≡ take count rows ++ row ∷ []
@@ -254,8 +241,7 @@ module _ (entries hashed : List StoredRow) (decided passed : ℕ) (waits : List 
     passing = λ place inside. passes_at row place there inside ∙ elim (cases_order place passed) [
       | inl same ↦
           let last : (b : Bool) → (b || true) ≡ true = elim [ true ↦ refl | false ↦ refl ] in
-          ap (λ b. nat_lt place passed || b) (key_itself _ _ (sym (ap (key_at entries) same ∙ at)))
-          ∙ last (nat_lt place passed) ∙ sym (lt-ltb place (passed + 1) (omega arith))
+          ap (λ b. nat_lt place passed || b) (key_itself _ _ (sym (ap (key_at entries) same ∙ at))) ∙ last (nat_lt place passed) ∙ sym (lt-ltb place (passed + 1) (omega arith))
       | inr (inl lower) ↦ ap (λ b. b || bytes_eq row.key (key_at entries place)) (lt-ltb place passed lower) ∙ sym (lt-ltb place (passed + 1) (omega arith))
       | inr (inr higher) ↦
           cc (

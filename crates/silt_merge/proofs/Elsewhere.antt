@@ -1,8 +1,8 @@
 -- What a change on another part of the disk leaves of a merge.
 use Rattle.silt_merge.proofs.Common.{◌≡◌, ◌≢◌, ℕ, suc, ◌+◌, ◌-◌, ◌*◌, ◌<◌, ◌≤◌, ◌⊎◌, IsTrue, List, [], ◌∷◌, ◌++◌, filter, length, map, take, get_or, Option, Some, None, option_map, inl, inr}
-use Rattle.silt_merge.proofs.Common.{refl, sym, subst, ap, ◌∙◌, arith, cases_lt, length-map, size, Shape, entry_len, sorted_at, kind_byte, slot_row, hash_part, HashState, all_before}
-use Rattle.silt_merge.proofs.Common.{StoredRow, entries_bytes, is_put_row, keys_of, sorted_rows, SortedState, AreSound, source_row, entries_in, has_row_with, newest_rows, regions_of}
-use Rattle.silt_merge.proofs.Common.{IsHeldMerge, MergeState, source_at, Source, IsBuildingOf, Holds}
+use Rattle.silt_merge.proofs.Common.{refl, sym, ap, ◌∙◌, arith, cases_lt, length-map, Shape, entry_len, sorted_at, kind_byte, slot_row, hash_part, HashState, all_before, StoredRow}
+use Rattle.silt_merge.proofs.Common.{is_put_row, keys_of, sorted_rows, SortedState, AreSound, source_row, entries_in, has_row_with, newest_rows, regions_of, IsHeldMerge, MergeState}
+use Rattle.silt_merge.proofs.Common.{source_at, Source, IsBuildingOf}
 use Rattle.std.specs.List.{All}
 use Rattle.std.proofs.lemmas.Bool.{cases_order}
 use Rattle.std.proofs.Math.Seq.{drop-append-add}
@@ -12,7 +12,6 @@ use Rattle.silt_disk.specs.Layout.{device_size, entries_len, hash_at, slots_len}
 use Rattle.silt_disk.proofs.Regions.{regions_apart}
 use Rattle.silt_hash_store.proofs.Elsewhere.{slot_outside, slots_inside}
 use Rattle.silt_hash_store.specs.Slots.{rows_before}
-use Rattle.silt_sorted_store.specs.Findings.{sorted_findings}
 use Rattle.silt_sorted_store.specs.State.{IsHeldSorted}
 use Rattle.silt_log.proofs.Bodies.{map_range_same}
 use Rattle.silt_merge.specs.Laws.{MergedElsewhereLaw, OldestStoresLaw}
@@ -73,11 +72,7 @@ module _ (old new : List ℕ) (stores : List HashState) (sorted : SortedState) (
 
   -- there was no finding if there is none
   pub sound_before : AreSound new stores sorted → AreSound old stores sorted
-  sound_before sound = record {
-    there = sound.there;
-    hashes = cc (parts_same sorted.shape old new (regions_of stores) same.rows, sound.hashes);
-    entries = ap sorted_findings (sym same.entries) ∙ sound.entries;
-  }
+  sound_before sound = search (arith, parts_same)
 
   -- the row of a source
   row_same : (source : Source) → source.store < length (regions_of stores) → source.slot < 4 * sorted.shape.buckets
@@ -85,11 +80,10 @@ module _ (old new : List ℕ) (stores : List HashState) (sorted : SortedState) (
   row_same source below inside = ap (λ (r : StoredRow). let q : StoredRow = record r { kind = kind_byte source.kind } in q) (same.rows source.store source.slot below inside)
 
   -- what was gathered and decided is so still
-  pub merged_same : (merge : MergeState) → ((key : List ℕ) (source : Source) → source_at merge.waiting key ≡ Some source
-      → (source.store < length (regions_of stores)) × (source.slot < 4 * sorted.shape.buckets))
-      → (merge.store < length (regions_of stores)) ⊎ (merge.slot ≡ 0) → merge.slot ≤ 4 * sorted.shape.buckets
-      → IsGatheredIn old stores sorted merge → sorted_rows merge.shape merge.region merge.written new ≡ take merge.shape.sorted_capacity
-      (filter is_put_row (decided_rows old stores sorted merge.decided))
+  pub merged_same : (merge : MergeState)
+      → ((key : List ℕ) (source : Source) → source_at merge.waiting key ≡ Some source → (source.store < length (regions_of stores)) × (source.slot < 4 * sorted.shape.buckets))
+      → (merge.store < length (regions_of stores)) ⊎ (merge.slot ≡ 0) → merge.slot ≤ 4 * sorted.shape.buckets → IsGatheredIn old stores sorted merge
+      → sorted_rows merge.shape merge.region merge.written new ≡ take merge.shape.sorted_capacity (filter is_put_row (decided_rows old stores sorted merge.decided))
       → IsBuildingOf (keys_of (sorted_rows merge.shape merge.region merge.written new)) merge.index.building → IsMergedIn new stores sorted merge
   merged_same merge inside some most is writes index =
       let decided : decided_rows new stores sorted merge.decided ≡ decided_rows old stores sorted merge.decided = ap (λ l. take merge.decided (newest_rows l)) sources_same in
@@ -145,9 +139,8 @@ same_outside stores sorted old new at count fits there held behind outside torn 
 
 -- a change of entries of another sorted region
 pub same_beside : (stores : List HashState) (sorted : SortedState) (region : ℕ) (old new : List ℕ) → device_size sorted.shape ≤ length old
-    → All (λ store. store.region < sorted.shape.hashes) stores → IsHeldSorted sorted
-    → sorted.region ≢ region → region < 2 → Torn (sorted_at sorted.shape region) (sorted.shape.sorted_capacity * entry_len sorted.shape) old new
-    → SameSources sorted.shape (regions_of stores) sorted old new
+    → All (λ store. store.region < sorted.shape.hashes) stores → IsHeldSorted sorted → sorted.region ≢ region → region < 2
+    → Torn (sorted_at sorted.shape region) (sorted.shape.sorted_capacity * entry_len sorted.shape) old new → SameSources sorted.shape (regions_of stores) sorted old new
 same_beside stores sorted region old new fits there held apart below torn =
     let s : Shape = sorted.shape in
     let regions = regions_apart s in
@@ -174,24 +167,22 @@ merged_elsewhere stores sorted merge old new at count held_sorted held fits own 
   shape = is.shape;
   counted = is.counted;
   apart = is.apart;
-  hashed = λ honest. subst (λ (rows : List StoredRow). Holds merge.hasher (entries_bytes rows)) (sym (kept honest)) (is.hashed (sym changes.honest ∙ honest));
+  hashed = λ honest. rw (← (kept honest)) at (is.hashed (sym changes.honest ∙ honest));
   merged = λ honest sound.
       let was : IsTrue old.honest = sym changes.honest ∙ honest in
       let torn = changes.shown was in
-      let same = same_outside stores sorted old.shown new.shown at count fits sound.there held_sorted behind outside torn in
-      let so_far = is.merged was (sound_before old.shown new.shown stores sorted same sound) in
-      merged_same old.shown new.shown stores sorted same merge (source_inside stores sorted merge held is.shape is.counted) (store_next stores merge held is.counted)
-      (subst (λ (s : Shape). merge.slot ≤ 4 * s.buckets) (sym is.shape) (omega (arith, held.slot))) so_far.gathered
-      (kept honest ∙ so_far.writes) (subst (λ l. IsBuildingOf (keys_of l) merge.index.building) (sym (kept honest)) so_far.index);
+      let same = same_outside stores sorted _ _ at count fits sound.there held_sorted behind outside torn in
+      let so_far = is.merged was (sound_before _ _ stores sorted same sound) in
+      merged_same _ _ stores sorted same merge (source_inside stores sorted merge held is.shape is.counted) (store_next stores merge held is.counted) (rw is.shape (omega (arith, held.slot)))
+      so_far.gathered (kept honest ∙ so_far.writes) (rw (← (kept honest)) at so_far.index);
 }
   where
     -- what it wrote stays
     kept : IsTrue new.honest → sorted_rows merge.shape merge.region merge.written new.shown ≡ sorted_rows merge.shape merge.region merge.written old.shown
     kept honest =
         let was : IsTrue old.honest = sym changes.honest ∙ honest in
-        entries_outside merge.shape merge.region merge.written at count old.shown new.shown
-        (subst (λ (s : Shape). sorted_at s merge.region + s.sorted_capacity * entry_len s ≤ size old) is.shape (omega (arith, entries_inside sorted.shape merge.region held.there))) held.room
-        (subst (λ (s : Shape). LiesOutside (sorted_at s merge.region) (entries_len s) at count) is.shape own) (changes.shown was)
+        entries_outside _ _ _ at count old.shown new.shown (rw (← is.shape) (omega (arith, entries_inside sorted.shape merge.region held.there))) held.room (rw is.shape at own)
+        (changes.shown was)
 
 -- the oldest stores, after newer ones came
 pub oldest_stores_law : OldestStoresLaw

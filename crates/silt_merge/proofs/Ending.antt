@@ -1,20 +1,18 @@
 -- What the decision of a key leaves, and what a merge that is done has written.
+use Rattle.std.proofs.lemmas.Bool.{cases_Bool, and_from, le-leb, leb-true, ne_eqb}
 use Rattle.silt_merge.proofs.Common.{◌≡◌, ◌≢◌, ℕ, ◌+◌, ◌*◌, ◌<◌, ◌≤◌, ◌&&◌, nat_lt, Bool, true, false, ◌||◌, cond, IsTrue, List, [], ◌∷◌, ◌++◌, filter, length, take, get_or, slice_get}
 use Rattle.silt_merge.proofs.Common.{Option, Some, None, option_map, inl, inr, refl, sym, subst, ap, ◌∙◌, arith, bytes_eq, Ordering, Less, Equal, Greater, and_parts, cases_lt, cond-true}
 use Rattle.silt_merge.proofs.Common.{cond-false, eq-eqb, eqb-true, ltb-false, ltb-true, is_eq-slice_cmp, length-map, slice_get_within, Content, size, Shape, entry_len, sorted_at, kind_byte}
-use Rattle.silt_merge.proofs.Common.{Place, Key, slot_row, HashState, exact_bytes, slice_cmp, sorted_rows, SortedState, entries_of, StoredRow, entries_bytes, entry_row, is_put_row, keys_of}
+use Rattle.silt_merge.proofs.Common.{Place, Key, HashState, exact_bytes, slice_cmp, sorted_rows, SortedState, entries_of, StoredRow, entries_bytes, entry_row, is_put_row, keys_of}
 use Rattle.silt_merge.proofs.Common.{IsNextEntry, ReadsRow, due_rows, is_written, AreSound, HasMerged, source_row, AreEntries, AreSlots, parts_after, entries_in, has_row_with}
 use Rattle.silt_merge.proofs.Common.{rows_of_hashes, newest_rows, regions_of, IsHeldMerge, MergeState, hashed_after, is_behind, passed_after, source_at, written_after, BuilderState}
 use Rattle.silt_merge.proofs.Common.{IsBuildingOf, is_above, Choice, Source, key_of_row, key_at, Holds, Sha1, HasTaken, Taken}
 use Rattle.std.proofs.Common.{◌==◌, nat_le, not, IsSomeAnd, is_some, is_lt, nat_cmp}
-use Rattle.std.proofs.lemmas.Bool.{and_from, le-leb, leb-true, ne_eqb}
 use Rattle.std.proofs.lemmas.List.{take_all}
 use Rattle.silt_disk.specs.Disk.{ChangesWithin}
 use Rattle.silt_disk.specs.Layout.{device_size}
 use Rattle.silt_disk.proofs.Regions.{next_region}
 use Rattle.silt_frame.specs.Frame.{is_put}
-use Rattle.silt_frame.specs.declared.key.Kind.{Kind}
-use Rattle.silt_frame.specs.declared.key.Kind.TheVariants.{Put, Delete}
 use Rattle.silt_sorted_store.specs.Findings.{sorted_findings}
 use Rattle.silt_sorted_store.specs.State.{IsHeldSorted}
 use Rattle.silt_merge.specs.Choice.{IsFirstWaiting, IsOffered, choice_of, choice_puts}
@@ -71,19 +69,7 @@ module _ (image : List ℕ) (stores : List HashState) (sorted : SortedState) whe
 due_row : (row shown : StoredRow) (source : Source) (key bytes : List ℕ) → row ≡ (let r : StoredRow = record shown { kind = kind_byte source.kind } in r) → row.key ≡ key
     → (is_put source.kind ≡ true → entry_row bytes ≡ (let r : StoredRow = record { kind = 1; key = key; value = shown.value } in r))
     → due_rows (is_put source.kind) bytes ≡ filter is_put_row (row ∷ [])
-due_row row shown source key bytes is same read = go _ refl
-  where
-    go : (kind : Kind) → source.kind ≡ kind → due_rows (is_put source.kind) bytes ≡ filter is_put_row (row ∷ [])
-    go Put it =
-        let puts_it : is_put source.kind ≡ true = ap is_put it in
-        let kind : row.kind ≡ 1 = ap (λ (r : StoredRow). r.kind) is ∙ ap kind_byte it in
-        let value : row.value ≡ shown.value = ap (λ (r : StoredRow). r.value) is in
-        let own : (let r : StoredRow = record { kind = 1; key = key; value = shown.value } in r) ≡ row = cc in
-        cc (read puts_it, cond-true _ _ _ (eq-eqb row.kind 1 kind))
-    go Delete it =
-        let kind : row.kind ≡ 2 = ap (λ (r : StoredRow). r.kind) is ∙ ap kind_byte it in
-        let other : is_put_row row ≡ false = ap (λ n. n == 1) kind in
-        cc (cond-false _ _ _ other)
+due_row row shown source key bytes is same read = search (arith, cond-true, eq-eqb, cond-false)
 
 module _ (image : List ℕ) (stores : List HashState) (sorted : SortedState) (merge : MergeState) (choice : Choice) (bytes : List ℕ) (rises : Rises (entries_in image sorted))
     (so_far : IsDecided (entries_in image sorted) (rows_of_hashes sorted.shape image (regions_of stores)) merge.decided merge.passed (waits_in image stores sorted merge.waiting))
@@ -104,44 +90,24 @@ module _ (image : List ℕ) (stores : List HashState) (sorted : SortedState) (me
   -- whose entry is written, if it is a put
   pub due_is_row : (after : List ℕ) → ReadsRow sorted.shape image (regions_of stores) choice.key.0 choice.source bytes after
       → due_rows (choice_puts choice.source) after ≡ filter is_put_row (decides.0 ∷ [])
-  due_is_row after read = go _ refl read
-    where
-      row : StoredRow
-      row = decides.0
-
-      go : (o : Option Source) → choice.source ≡ o → ReadsRow sorted.shape image (regions_of stores) choice.key.0 o bytes after
-          → due_rows (choice_puts choice.source) after ≡ filter is_put_row (row ∷ [])
-      go None none same =
-          let lacks : waits_in image stores sorted merge.waiting row.key ≡ None = cc (decides.2, is.source) in
-          let at = (is.entry none).0 in
-          let entry_key : (entry_row bytes).key ≡ row.key = sym (key_of_row old_entries merge.passed (entry_row bytes) at) ∙ (is.passes (is.entry none).1).1 ∙ sym decides.2 in
-          let it : row ≡ entry_row bytes = next_enters _ _ _ _ (waits_in image stores sorted merge.waiting) rises so_far row _ decides.1 lacks at entry_key in
-          cc
-      go (Some source) some read_it =
-          let shown : StoredRow = slot_row sorted.shape (get_or (regions_of stores) source.store 0) image source.slot in
-          let has : waits_in image stores sorted merge.waiting row.key ≡ Some (source_row sorted.shape image (regions_of stores) source) =
-          cc (decides.2, is.source) in
-          let it = next_waits _ _ _ _ (waits_in image stores sorted merge.waiting) rises so_far row _ decides.1 has in
-          cc (due_row row shown source choice.key.0 after it decides.2 read_it)
+  due_is_row after read = search (arith, decides, key_of_row, next_enters, next_waits, due_row)
 
   -- one key more is decided
   pub decided_step : (after : List (Key × Source)) → ((key : List ℕ) → source_at after key ≡ cond (bytes_eq choice.key.0 key) None (source_at merge.waiting key))
       → IsDecided old_entries old_hashed (merge.decided + 1) (passed_after choice.passes merge.passed) (waits_in image stores sorted after)
-  decided_step after gone = go _ refl
+  decided_step after gone = elim (cases_Bool choice.passes) [
+    | inl passes ↦
+        let it = is.passes passes in
+        rw (← (ap (λ b. passed_after b merge.passed) passes)) at (decided_with old_entries old_hashed merge.decided merge.passed (waits_in image stores sorted merge.waiting)
+        rises so_far decides.0 (waits_in image stores sorted after) decides.1 it.0 (it.1 ∙ sym decides.2) let_go_row)
+    | inr stays ↦
+        rw (← (ap (λ b. passed_after b merge.passed) stays)) at (decided_without old_entries old_hashed merge.decided merge.passed (waits_in image stores sorted merge.waiting) rises so_far
+        decides.0 (waits_in image stores sorted after) decides.1 (λ below. ap (λ k. slice_cmp nat_cmp k (key_at old_entries merge.passed)) decides.2 ∙ is.stays stays below) let_go_row)
+  ]
     where
       -- the rows that wait
       let_go_row : (key : List ℕ) → waits_in image stores sorted after key ≡ cond (bytes_eq decides.0.key key) None (waits_in image stores sorted merge.waiting key)
       let_go_row key = search (arith, decides)
-
-      go : (b : Bool) → choice.passes ≡ b → IsDecided old_entries old_hashed (merge.decided + 1) (passed_after choice.passes merge.passed) (waits_in image stores sorted after)
-      go true passes =
-          let it = is.passes passes in
-          rw (← (ap (λ b. passed_after b merge.passed) passes)) at (decided_with old_entries old_hashed merge.decided merge.passed (waits_in image stores sorted
-          merge.waiting) rises so_far decides.0 (waits_in image stores sorted after) decides.1 it.0 (it.1 ∙ sym decides.2) let_go_row)
-      go false stays =
-          rw (← (ap (λ b. passed_after b merge.passed) stays)) at (decided_without old_entries old_hashed merge.decided merge.passed (waits_in image stores
-          sorted merge.waiting) rises so_far decides.0 (waits_in image stores sorted after) decides.1 (λ below. ap (λ k. slice_cmp nat_cmp k (key_at old_entries
-          merge.passed)) decides.2 ∙ is.stays stays below) let_go_row)
 
 -- the last key of one key more
 last_decided : (rows : List StoredRow) (decided : ℕ) (row : StoredRow) (own key : Key) → slice_get rows decided ≡ Some row
@@ -160,12 +126,7 @@ ahead_after rows false passed ahead is = is
 -- the next entry is skipped only if there is one
 pub skipped_inside : (passed count : ℕ) (last : Option Key) (first : Option (Key × Source)) (next : Option Key) (choice : Choice)
     → choice_of first next ≡ Some choice → is_some next ≡ nat_lt passed count → (is_behind last next || choice.passes) ≡ true → passed < count
-skipped_inside passed count last first (Some next) choice made some skips = ltb-true passed count (sym some)
-skipped_inside passed count last None None choice made some skips = absurd (cc)
-skipped_inside passed count last (Some (key, source)) None choice made some skips =
-    let one : record { key = key; source = Some source; passes = false } ≡ choice = cc in
-    let stays : choice.passes ≡ false = sym (ap (λ (c : Choice). c.passes) one) in
-    absurd (cc)
+skipped_inside passed count last first next choice made some skips = search (arith, ltb-true)
 
 -- the bytes of the entries that are skipped after a key
 passed_bytes : (rows : List StoredRow) (passes : Bool) (passed : ℕ) (ahead : List (List ℕ)) → (passes ≡ true → 0 < length ahead) → AreEntries rows passed ahead
@@ -175,13 +136,11 @@ passed_bytes rows false passed ahead some are = refl
 
 -- these are the bytes of the next slots of the store in progress
 abbrev NextSlots : List ℕ → List HashState → SortedState → MergeState → List (List ℕ) → Type 0
-NextSlots image stores sorted merge slots =
-    merge.store < length stores → AreSlots sorted.shape (get_or (regions_of stores) merge.store 0) image merge.slot slots
+NextSlots image stores sorted merge slots = merge.store < length stores → AreSlots sorted.shape (get_or (regions_of stores) merge.store 0) image merge.slot slots
 
 -- a merge with other slots and entries ahead, whatever it found damaged, if they are the next ones
 merged_with : (content : Content) (stores : List HashState) (sorted : SortedState) (merge : MergeState) (slots ahead : List (List ℕ)) (damaged : Option Place)
-    → (IsTrue content.honest → sorted.shape ≡ merge.shape → NextSlots content.shown stores sorted merge merge.slots
-    → NextSlots content.shown stores sorted merge slots)
+    → (IsTrue content.honest → sorted.shape ≡ merge.shape → NextSlots content.shown stores sorted merge merge.slots → NextSlots content.shown stores sorted merge slots)
     → (IsTrue content.honest → AreEntries (entries_of content sorted) merge.passed merge.ahead → AreEntries (entries_of content sorted) merge.passed ahead)
     → HasMerged content stores sorted merge → HasMerged content stores sorted (record merge { slots = slots; ahead = ahead; damaged = damaged })
 merged_with content stores sorted merge slots ahead damaged next_slots next_entries is = record {
@@ -191,21 +150,7 @@ merged_with content stores sorted merge slots ahead damaged next_slots next_entr
   hashed = is.hashed;
   merged = λ honest sound.
       let so_far = is.merged honest sound in
-      let was = so_far.gathered in
-      record {
-        gathered = record {
-          most = was.most;
-          waits = was.waits;
-          last = was.last;
-          slots = next_slots honest is.shape was.slots;
-          ahead = next_entries honest was.ahead;
-          passes = was.passes;
-          slots_hashed = was.slots_hashed;
-          entries_hashed = was.entries_hashed;
-        };
-        writes = so_far.writes;
-        index = so_far.index;
-      };
+      search arith;
 }
 
 -- one with entries that are read ahead
@@ -228,12 +173,11 @@ merged_noted content stores sorted merge damaged = merged_with _ stores sorted m
 -- ---- on a disk
 
 -- on an honest disk the next entry is above the last key, so that none is passed over for its key
-pub merged_behind : (content : Content) (stores : List HashState) (sorted : SortedState) (merge : MergeState) (next : Option Key) (bytes : List ℕ) (input : Taken)
-    → IsHeldMerge merge → merge.store ≡ merge.stores
-    → is_some next ≡ nat_lt merge.passed sorted.count
-    → (IsTrue content.honest → AreEntries (entries_of content sorted) merge.passed merge.ahead → IsNextEntry (entries_of content sorted) merge.passed bytes next) → is_behind merge.last next ≡ true
-    → HasMerged content stores sorted merge → HasMerged content stores sorted
-    (record merge { passed = merge.passed + 1; decided = merge.decided + 1; ahead = parts_after true merge.ahead; input = input })
+pub merged_behind : (content : Content) (stores : List HashState) (sorted : SortedState) (merge : MergeState) (next : Option Key) (bytes : List ℕ) (input : Taken) → IsHeldMerge merge
+    → merge.store ≡ merge.stores → is_some next ≡ nat_lt merge.passed sorted.count
+    → (IsTrue content.honest → AreEntries (entries_of content sorted) merge.passed merge.ahead → IsNextEntry (entries_of content sorted) merge.passed bytes next)
+    → is_behind merge.last next ≡ true → HasMerged content stores sorted merge
+    → HasMerged content stores sorted (record merge { passed = merge.passed + 1; decided = merge.decided + 1; ahead = parts_after true merge.ahead; input = input })
 unfolding sources
 merged_behind content stores sorted merge next bytes input held all some there behind is = record {
   shape = is.shape;
@@ -268,8 +212,7 @@ module _ (old new : Content) (stores : List HashState) (sorted : SortedState) (m
     (changes : ChangesWithin (sorted_at merge.shape merge.region) (merge.shape.sorted_capacity * entry_len merge.shape) old new) where
   -- all that is merged stays
   sources_stay : HasMerged old stores sorted merge → AreSound new.shown stores sorted → IsTrue old.honest → SameSources sorted.shape (regions_of stores) sorted old.shown new.shown
-  sources_stay is sound was =
-      same_beside stores sorted _ _ _ (rw (← is.shape) at fits) sound.there held_sorted is.apart held.there (rw (← is.shape) at (changes.shown was))
+  sources_stay is sound was = same_beside stores sorted _ _ _ (rw (← is.shape) at fits) sound.there held_sorted is.apart held.there (rw (← is.shape) at (changes.shown was))
 
   -- a source that waits after a key is decided waited before
   still_inside : (choice : Choice) (after : List (Key × Source)) → ((key : List ℕ) → source_at after key ≡ cond (bytes_eq choice.key.0 key) None (source_at merge.waiting key))
@@ -327,8 +270,7 @@ module _ (old new : Content) (stores : List HashState) (sorted : SortedState) (m
           ahead = parts_after choice.passes merge.ahead;
           input = input;
           hasher = hasher;
-        }
-        in
+        } in
         let same = sources_stay is sound was in
         let sound_old = sound_before old.shown new.shown stores sorted same sound in
         let so_far = is.merged was sound_old in
@@ -342,27 +284,26 @@ module _ (old new : Content) (stores : List HashState) (sorted : SortedState) (m
         let next_row = decides image stores sorted merge choice bytes rises decided choices in
         let reads = subst (λ (s : Shape). ReadsRow s image (regions_of stores) choice.key.0 choice.source bytes row_bytes) (sym is.shape) (read was) in
         let its_due = due_is_row image stores sorted merge choice bytes rises decided choices row_bytes reads in
-        let below = slice_get_within (newest_rows (entries_in image sorted ++ rows_of_hashes sorted.shape image (regions_of stores))) merge.decided next_row.0 next_row.1 in
+        let newest : List StoredRow = newest_rows (entries_in image sorted ++ rows_of_hashes sorted.shape image (regions_of stores)) in
+        let below = slice_get_within newest merge.decided next_row.0 next_row.1 in
         let after_it = decided_step image stores sorted merge choice bytes rises decided choices after gone in
-        let writes = due_more (newest_rows (entries_in image sorted ++ rows_of_hashes sorted.shape image (regions_of stores))) merge.decided cap next_row.0 old_rows
+        let writes = due_more newest merge.decided cap next_row.0 old_rows
         (due_rows (choice_puts choice.source) row_bytes) new_rows next_row.1 so_far.writes its_due
         (rows_due cap merge.written old_rows new_rows (choice_puts choice.source) due row_bytes due_is old_count held.room (written was)) in
         let keys = keys_written cap merge.written old_rows new_rows (choice_puts choice.source) due row_bytes due_is old_count held.room (written was) next_row.0 choice.key.0 its_due next_row.2 in
-        let above = above_index old_rows (newest_rows (entries_in image sorted ++ rows_of_hashes sorted.shape image (regions_of stores)))
-        merge.index.building merge.decided cap next_row.0 choice.key.0
-        (rises_newest (entries_in image sorted ++ rows_of_hashes sorted.shape image (regions_of stores))) so_far.index so_far.writes next_row.1 next_row.2 in
+        let above = above_index old_rows newest merge.index.building merge.decided cap next_row.0
+        choice.key.0 (rises_newest (entries_in image sorted ++ rows_of_hashes sorted.shape image (regions_of stores))) so_far.index so_far.writes next_row.1 next_row.2 in
         let built : IsBuildingOf (keys_after due (keys_of old_rows) choice.key.0) index.building =
         indexes (keys_of old_rows) so_far.index (length-map old_rows (λ (r : StoredRow). r.key) ∙ old_count) above in
         let holds : HasTaken input (entries_bytes (take (passed_after choice.passes merge.passed) (entries_in image sorted))) =
-        subst (HasTaken input) (sym (passed_bytes (entries_in image sorted) choice.passes merge.passed merge.ahead
-        (λ passes. is_ahead (let it = choices.passes passes in omega (arith, it.0, long))) so_far.gathered.ahead))
+        rw (passed_bytes (entries_in image sorted) choice.passes merge.passed merge.ahead (λ passes. is_ahead (let it = choices.passes passes in omega (arith, it.0, long))) so_far.gathered.ahead)
         (takes (entries_bytes (take merge.passed (entries_in image sorted))) (so_far.gathered.entries_hashed (omega (arith, past, regions_count stores)))) in
+        let gathered = gathered_of image stores sorted merge_after past none (omega (arith, below))
+        (λ key is_key. last_decided newest merge.decided next_row.0 choice.key key next_row.1 next_row.2 is_key)
+        (ahead_after (entries_in image sorted) choice.passes merge.passed merge.ahead so_far.gathered.ahead) holds after_it in
         merged_same old.shown new.shown stores sorted same merge_after
-        (λ key source found. source_inside stores sorted merge held is.shape is.counted key source (still_inside choice after gone key source found)) (inr none)
-        (omega (arith, none)) (gathered_of image stores sorted merge_after past none (omega (arith, below))
-        (λ key is_key. last_decided (newest_rows (entries_in image sorted ++ rows_of_hashes sorted.shape image (regions_of stores)))
-        merge.decided next_row.0 choice.key key next_row.1 next_row.2 is_key)
-        (ahead_after (entries_in image sorted) choice.passes merge.passed merge.ahead so_far.gathered.ahead) holds after_it) (rows_after ∙ writes)
+        (λ key source found. source_inside stores sorted merge held is.shape is.counted key source (still_inside choice after gone key source found))
+        (inr none) (omega (arith, none)) gathered (rows_after ∙ writes)
         (subst (λ (l : List (List ℕ)). IsBuildingOf l index.building) (sym (ap keys_of rows_after ∙ keys)) built);
   }
     where
@@ -488,11 +429,7 @@ entries_written merge content store made count same is all = cc
 module _ (merge : MergeState) (sorted : SortedState) where
   -- a merge in which a row waits is not done
   pub not_decided : length merge.waiting ≢ 0 → false ≡ is_done merge sorted
-  not_decided some = go _
-    where
-      go : (b : Bool) → false ≡ ((b && (length merge.waiting == 0)) && nat_le sorted.count merge.passed)
-      go true = sym (ap (λ b. b && nat_le sorted.count merge.passed) (ne_eqb (length merge.waiting) 0 some))
-      go false = refl
+  not_decided some = search (arith, ne_eqb)
 
   -- nor is one that still gathers
   pub not_gathered : merge.store < merge.stores → false ≡ is_done merge sorted
@@ -533,9 +470,8 @@ module _ (merge : MergeState) (sorted : SortedState) where
       absurd (cc)
 
   -- a merge that is done has decided each key
-  all_keys : (content : Content) (stores : List HashState) → IsHeldMerge merge → HasMerged content stores sorted merge
-      → IsTrue content.honest → AreSound content.shown stores sorted → is_done merge sorted ≡ true
-      → merge.decided ≡ key_count (sources content.shown stores sorted)
+  all_keys : (content : Content) (stores : List HashState) → IsHeldMerge merge → HasMerged content stores sorted merge → IsTrue content.honest → AreSound content.shown stores sorted
+      → is_done merge sorted ≡ true → merge.decided ≡ key_count (sources content.shown stores sorted)
   unfolding sources
   all_keys content stores held is honest sound done =
       let image : List ℕ = content.shown in
@@ -544,9 +480,8 @@ module _ (merge : MergeState) (sorted : SortedState) where
       let past : length (regions_of stores) ≤ merge.store = omega (arith, regions_count stores, is.counted, parts.0) in
       let decided = decided_of image stores sorted merge past (held.ended parts.0) so_far.gathered in
       let long = entry_count sorted.shape sorted.region sorted.count image in
-      let all = all_decided (entries_in image sorted) (rows_of_hashes sorted.shape image (regions_of stores)) merge.decided merge.passed
-      (waits_in image stores sorted merge.waiting) (rises_of (entries_in image sorted) sound.entries) decided
-      (λ key. ap (λ l. waits_in image stores sorted l key) parts.1) (omega (arith, long, parts.2)) in
+      let all = all_decided (entries_in image sorted) (rows_of_hashes sorted.shape image (regions_of stores)) merge.decided merge.passed (waits_in image stores sorted merge.waiting)
+      (rises_of (entries_in image sorted) sound.entries) decided (λ key. ap (λ l. waits_in image stores sorted l key) parts.1) (omega (arith, long, parts.2)) in
       let most = so_far.gathered.most in
       omega (arith, all, most)
 
@@ -604,9 +539,8 @@ module _ (merge : MergeState) (sorted : SortedState) where
       cc ((is.merged honest sound).writes, take_all merge.decided (newest_rows (sources content.shown stores sorted)) (omega (arith, all_keys _ stores held is honest sound done)))
 
   -- which are a merge of the rows
-  pub done_merge : (content : Content) (stores : List HashState) → IsHeldMerge merge → is_done merge sorted ≡ true
-      → HasMerged content stores sorted merge → IsTrue content.honest → AreSound content.shown stores sorted
-      → length (merged_rows (sources content.shown stores sorted)) ≤ merge.shape.sorted_capacity
+  pub done_merge : (content : Content) (stores : List HashState) → IsHeldMerge merge → is_done merge sorted ≡ true → HasMerged content stores sorted merge → IsTrue content.honest
+      → AreSound content.shown stores sorted → length (merged_rows (sources content.shown stores sorted)) ≤ merge.shape.sorted_capacity
       → IsMergeOf (sources content.shown stores sorted) (sorted_rows merge.shape merge.region merge.written content.shown)
   done_merge content stores held done is honest sound room =
       let all = done_entries _ stores held done is honest sound ∙ take_all merge.shape.sorted_capacity (merged_rows (sources content.shown stores sorted)) room in

@@ -1,7 +1,7 @@
 -- What waits after one slot more.
-use Rattle.silt_merge.proofs.Common.{◌≡◌, ℕ, zero, suc, ◌+◌, ◌*◌, ◌<◌, ◌≤◌, Bool, true, false, ◌&&◌, cond, List, [], ◌∷◌, ◌++◌, filter, flat_map, length, map, take, get_or, Option, Some}
-use Rattle.silt_merge.proofs.Common.{None, option_map, refl, sym, ap, ◌∙◌, arith, bytes_eq, option_or, cases_Bool, cond-true, cond-false, eqb-true, take_more, Shape, Row, IsRowAt, slot_row}
-use Rattle.silt_merge.proofs.Common.{hash_part, all_before, newest_row, hash_findings, StoredRow, Gathers, slot_after, source_at, Key, source_row, rows_of_hashes, Source}
+use Rattle.silt_merge.proofs.Common.{◌≡◌, ℕ, zero, suc, ◌+◌, ◌*◌, ◌<◌, ◌≤◌, true, false, List, [], ◌∷◌, ◌++◌, filter, flat_map, length, map, take, get_or, Option, Some, None, option_map}
+use Rattle.silt_merge.proofs.Common.{refl, sym, ap, ◌∙◌, arith, bytes_eq, option_or, cases_Bool, cond-true, cond-false, eqb-true, take_more, Shape, Row, IsRowAt, slot_row, hash_part}
+use Rattle.silt_merge.proofs.Common.{all_before, newest_row, hash_findings, StoredRow, Gathers, slot_after, source_at, Key, source_row, rows_of_hashes, Source}
 use Rattle.std.proofs.Common.{append_assoc, append-nil}
 use Rattle.std.proofs.lemmas.Bool.{or_parts}
 use Rattle.std.proofs.lemmas.List.{map-append, take_all}
@@ -22,32 +22,12 @@ use Rattle.silt_merge.proofs.Newest.{key_is, newest_append, newest_cons, or_none
 -- one more row, with newer rows behind it
 row_more : (older newer : List StoredRow) (row : StoredRow) (key : List ℕ) → (bytes_eq row.key key ≡ true → newest_row older key ≡ None)
     → newest_row ((older ++ row ∷ []) ++ newer) key ≡ option_or (newest_row (older ++ newer) key) (own row key)
-row_more older newer row key alone =
-    cc (
-      newest_append (older ++ row ∷ []) newer key,
-      newest_append older (row ∷ []) key,
-      newest_cons row [] key,
-      turn (bytes_eq row.key key) (newest_row newer key) (newest_row older key) alone,
-      newest_append older newer key,
-    )
-  where
-    turn : (b : Bool) (n o : Option StoredRow) → (b ≡ true → o ≡ None) → option_or n (option_or (cond b (Some row) None) o) ≡ option_or (option_or n o) (cond b (Some row) None)
-    turn true n o none = sym (ap (λ p. option_or (option_or n p) (Some row)) (none refl) ∙ ap (λ p. option_or p (Some row)) (or_none n))
-    turn false n o none = sym (or_none (option_or n o))
+row_more older newer row key alone = search (arith, alone, newest_append, newest_cons, or_none)
 
 -- no row of a known kind has a key that no row of a known kind has
 none_known : (key : List ℕ) (rows : List StoredRow) → holds_key key rows ≡ false → newest_row (filter has_known_kind rows) key ≡ None
 none_known key [] none = refl
-none_known key (row ∷ rows) none =
-    let both = or_parts (has_known_kind row && bytes_eq row.key key) (holds_key key rows) none in
-    let further = none_known key rows both.1 in
-    let go : (b : Bool) → has_known_kind row ≡ b → newest_row (filter has_known_kind (row ∷ rows)) key ≡ None = elim [
-      | true ↦ λ known.
-          let lacks : bytes_eq row.key key ≡ false = sym (ap (λ b. b && bytes_eq row.key key) known) ∙ both.0 in
-          ap (λ l. newest_row l key) (cond-true _ _ _ known) ∙ newest_cons row (filter has_known_kind rows) key ∙ ap (λ o. option_or o (own row key)) further ∙ cond-false _ _ _ lacks
-      | false ↦ λ unknown. ap (λ l. newest_row l key) (cond-false _ _ _ unknown) ∙ further
-    ] in
-    go (has_known_kind row) refl
+none_known key (row ∷ rows) none = search (arith, none_known key rows, or_parts, cond-true, newest_cons, cond-false)
 
 -- a list with one row more at its end, as far as rows are of known kinds
 known_more : (rows : List StoredRow) (row : StoredRow) → has_known_kind row ≡ true → filter has_known_kind (rows ++ row ∷ []) ≡ filter has_known_kind rows ++ row ∷ []
@@ -146,13 +126,4 @@ pub waits_kept : (s : Shape) (image regions : List ℕ) (store slot : ℕ) (row 
     → flat_map (hash_findings s) (map (hash_part s image) regions) ≡ [] → IsRowAt (slot_row s (get_or regions store 0) image slot) slot row → Gathers store slot row before after
     → ((key : List ℕ) → option_map (source_row s image regions) (source_at before key) ≡ newest_row (gathered_rows s image regions store slot) key)
     → (key : List ℕ) → option_map (source_row s image regions) (source_at after key) ≡ newest_row (gathered_rows s image regions store (slot + 1)) key
-waits_kept s image regions store slot None before after below inside none is keeps waits key =
-    cc (keeps key, waits key, none_there s image regions store slot below inside none key is)
-waits_kept s image regions store slot (Some row) before after below inside none is keeps waits key =
-    cc (
-      keeps key,
-      map_or (source_row s image regions) (source_at before key) (own_source store slot row key),
-      waits key,
-      own_row s image regions store slot below inside none row key is,
-      row_gathered s image regions store slot below inside none row key is,
-    )
+waits_kept s image regions store slot row before after below inside none is keeps waits key = search (arith, none_there, map_or, own_row, row_gathered)

@@ -1,7 +1,7 @@
 -- The keys and the bytes of the entries that a merge wrote.
-use Rattle.silt_merge.proofs.Common.{◌≡◌, ℕ, zero, suc, ◌+◌, ◌≤◌, nat_lt, Bool, true, false, ◌&&◌, ◌||◌, cond, List, [], ◌∷◌, ◌++◌, filter, length, take, slice_get, Option, Some, None, inl}
-use Rattle.silt_merge.proofs.Common.{inr, refl, sym, ap, ◌∙◌, arith, slice_cmp, and_parts, cases_Bool, cond-true, cond-false, ltb-false, ltb-true, Key, StoredRow, entries_bytes, entry_row}
-use Rattle.silt_merge.proofs.Common.{is_put_row, keys_of, has_row_with, hashed_after, written_after, due_rows, is_written, IsBuildingOf, is_above}
+use Rattle.silt_merge.proofs.Common.{◌≡◌, ℕ, zero, suc, ◌+◌, ◌≤◌, Bool, true, false, ◌||◌, cond, List, [], ◌∷◌, ◌++◌, filter, length, take, slice_get, Option, Some, None, refl, sym, ap, ◌∙◌}
+use Rattle.silt_merge.proofs.Common.{arith, slice_cmp, and_parts, cases_Bool, cond-true, cond-false, ltb-false, ltb-true, Key, StoredRow, entries_bytes, entry_row, is_put_row, keys_of}
+use Rattle.silt_merge.proofs.Common.{has_row_with, hashed_after, written_after, due_rows, is_written, IsBuildingOf, is_above}
 use Rattle.std.proofs.Common.{is_lt, nat_cmp}
 use Rattle.std.proofs.lemmas.List.{append-nil, length-append, map-append, take_all, take_at}
 use Rattle.silt_merge.specs.State.{keys_after}
@@ -22,55 +22,26 @@ puts_row bytes row is = search (arith, cases_Bool, cond-false)
 
 -- so many are written after an entry that is written if it has a value and the region has room
 pub count_written : (most written : ℕ) (puts due : Bool) (count : ℕ) → due ≡ is_written puts written most → count ≡ written + cond (is_written due written most) 1 0 → count ≡ written_after due written
-count_written most written puts due count due_is counted = go due refl
-  where
-    go : (b : Bool) → due ≡ b → count ≡ written_after b written
-    go false none = let same : count ≡ written + 0 = cc in omega (arith, same)
-    go true is =
-        let below : nat_lt written most ≡ true = (and_parts puts (nat_lt written most) (sym due_is ∙ is)).1 in
-        cc
+count_written most written puts due count due_is counted = search (arith, and_parts)
 
 -- this entry is written if it has a value, and the region has room
 module _ (most written : ℕ) (old new : List StoredRow) (puts due : Bool) (bytes : List ℕ) (due_is : due ≡ is_written puts written most) (old_count : length old ≡ written) (room : written ≤ most)
     (made : new ≡ take most (old ++ due_rows due bytes)) where
   -- it comes behind those that are there
   pub rows_written : new ≡ old ++ due_rows due bytes
-  rows_written = made ∙ take_all most (old ++ due_rows due bytes) (fits due refl)
-    where
-      fits : (b : Bool) → due ≡ b → length (old ++ due_rows b bytes) ≤ most
-      fits false none = omega (arith, old_count, room, length-append old [])
-      fits true is =
-          omega (arith, old_count, ltb-true written most (and_parts puts (nat_lt written most) (sym due_is ∙ is)).1, length-append old (entry_row bytes ∷ []))
+  rows_written = search (arith, take_all, length-append, ltb-true, and_parts)
 
   -- as if it were written whenever it has a value, up to the room that there is
   pub rows_due : new ≡ take most (old ++ due_rows puts bytes)
-  rows_due = go puts (nat_lt written most) refl refl
-    where
-      go : (p below : Bool) → puts ≡ p → nat_lt written most ≡ below → new ≡ take most (old ++ due_rows p bytes)
-      go false below none room_is = let not_due : due ≡ false = due_is ∙ ap (λ b. b && nat_lt written most) none in made ∙ ap (λ b. take most (old ++ due_rows b bytes)) not_due
-      go true true some room_is = let is_due : due ≡ true = due_is ∙ ap (λ b. b && nat_lt written most) some ∙ room_is in made ∙ ap (λ b. take most (old ++ due_rows b bytes)) is_due
-      go true false some full =
-          let not_due : due ≡ false = due_is ∙ ap (λ b. b && nat_lt written most) some ∙ full in
-          cc (rows_written, append-nil old, take_at old (entry_row bytes ∷ []) most (omega (arith, old_count, ltb-false written most full, room)))
+  rows_due = search (arith, rows_written, append-nil, take_at, ltb-false)
 
   -- their bytes
   pub bytes_written : entries_bytes new ≡ hashed_after due (entries_bytes old) bytes
-  bytes_written = ap entries_bytes rows_written ∙ go due
-    where
-      go : (b : Bool) → entries_bytes (old ++ due_rows b bytes) ≡ hashed_after b (entries_bytes old) bytes
-      go false = ap entries_bytes (append-nil old)
-      go true = bytes_more old bytes
+  bytes_written = search (arith, rows_written, append-nil, bytes_more)
 
   -- and their keys, if it is the entry of this row
   pub keys_written : (row : StoredRow) (key : List ℕ) → due_rows puts bytes ≡ filter is_put_row (row ∷ []) → row.key ≡ key → keys_of new ≡ keys_after due (keys_of old) key
-  keys_written row key its same = ap keys_of rows_written ∙ go due refl
-    where
-      go : (b : Bool) → due ≡ b → keys_of (old ++ due_rows b bytes) ≡ keys_after b (keys_of old) key
-      go false none = ap keys_of (append-nil old)
-      go true is =
-          let put : puts ≡ true = (and_parts puts (nat_lt written most) (sym due_is ∙ is)).0 in
-          let it : entry_row bytes ≡ row = own_row bytes row (sym (ap (λ b. due_rows b bytes) put) ∙ its) in
-          cc (map-append (λ (r : StoredRow). r.key) old (entry_row bytes ∷ []))
+  keys_written row key its same = search (arith, rows_written, append-nil, and_parts, own_row, map-append)
 
 -- ---- a key of the index
 
@@ -88,10 +59,8 @@ either false c d step is = step is
 has_last : (rows : List StoredRow) (front : List (List ℕ)) (key : List ℕ) → keys_of rows ≡ front ++ key ∷ [] → has_row_with key rows ≡ true
 has_last [] [] key is = absurd (cc)
 has_last [] (first ∷ front) key is = absurd (cc)
-has_last (row ∷ rows) [] key is = let same : row.key ≡ key = cc in ap (λ b. b || has_row_with key rows) (key_itself _ key same)
-has_last (row ∷ rows) (first ∷ front) key is =
-    let rest : keys_of rows ≡ front ++ key ∷ [] = cc in
-    or_later _ _ (has_last rows front key rest)
+has_last (row ∷ rows) [] key is = search (arith, key_itself)
+has_last (row ∷ rows) (first ∷ front) key is = search (arith, has_last rows front key, or_later)
 
 -- a row of a beginning is one of all
 has_taken : (count : ℕ) (rows : List StoredRow) (key : List ℕ) → has_row_with key (take count rows) ≡ true → has_row_with key rows ≡ true
@@ -102,12 +71,7 @@ has_taken (suc count) (row ∷ rows) key has = either _ _ _ (has_taken count row
 -- a put is one of all rows
 has_put : (rows : List StoredRow) (key : List ℕ) → has_row_with key (filter is_put_row rows) ≡ true → has_row_with key rows ≡ true
 has_put [] key has = has
-has_put (row ∷ rows) key has =
-    let further : has_row_with key (filter is_put_row rows) ≡ true → has_row_with key rows ≡ true = has_put rows key in
-    elim (cases_Bool (is_put_row row)) [
-      | inl put ↦ either _ _ _ further (sym (ap (has_row_with key) (cond-true _ _ _ put)) ∙ has)
-      | inr other ↦ or_later _ _ (further (sym (ap (has_row_with key) (cond-false _ _ _ other)) ∙ has))
-    ]
+has_put (row ∷ rows) key has = search (arith, has_put rows key, cases_Bool, either, cond-true, or_later, cond-false)
 
 -- the key of the next row is above the last one of the index
 pub above_index : (rows newest : List StoredRow) (index : Building) (decided most : ℕ) (row : StoredRow) (key : List ℕ) → Rises newest → IsBuildingOf (keys_of rows) index

@@ -1,9 +1,9 @@
 -- The newest rows of keys: how one is looked up, and that they rise.
-use Rattle.silt_merge.proofs.Common.{◌≡◌, ℕ, zero, suc, ◌+◌, ◌<◌, ◌≤◌, Bool, true, false, cond, List, [], ◌∷◌, ◌++◌, filter, length, Option, Some, None, inl, inr, refl, sym, subst, ap, ◌∙◌}
-use Rattle.silt_merge.proofs.Common.{arith, bytes_eq, Ordering, Less, Equal, Greater, option_or, slice_cmp, cases_Bool, cond-true, cond-false, exact_bytes, is_eq-slice_cmp, newest_row}
-use Rattle.silt_merge.proofs.Common.{StoredRow, is_put_row, key_at, newest_rows}
+use Rattle.silt_merge.proofs.Common.{◌≡◌, ℕ, zero, suc, ◌+◌, ◌<◌, ◌≤◌, Bool, true, false, cond, List, [], ◌∷◌, ◌++◌, filter, length, Option, Some, None, inl, inr, refl, sym, ap, ◌∙◌, arith}
+use Rattle.silt_merge.proofs.Common.{bytes_eq, Less, Equal, Greater, option_or, slice_cmp, cases_Bool, cond-true, cond-false, exact_bytes, is_eq-slice_cmp, newest_row, StoredRow, is_put_row}
+use Rattle.silt_merge.proofs.Common.{key_at, newest_rows}
 use Rattle.std.proofs.Common.{◌==◌, find, reverse, option_and_then}
-use Rattle.std.specs.Ordering.{is_eq, match_ordering, nat_cmp, ordering_reverse}
+use Rattle.std.specs.Ordering.{is_eq, nat_cmp, ordering_reverse}
 use Rattle.std.specs.Cmp.Lexicographic.{nat_list_cmp_total}
 use Rattle.std.specs.FinMap.{same_map, slice_cmp-IsAntisymmetric, nat_cmp-IsAntisymmetric}
 use Rattle.std.proofs.lemmas.List.{reverse-append}
@@ -88,26 +88,14 @@ none_above key (row ∷ rows) above = cond-false _ _ _ (key_above key _ above.0)
 -- ---- a row among rows that rise
 
 -- what holds of rows with an older one holds if it holds with that before the first row, with the first row in its place, and behind it
-older_cases : (P : List StoredRow → Type 0) (row first : StoredRow) (rest : List StoredRow)
-    → (slice_cmp nat_cmp row.key first.key ≡ Less → P (row ∷ first ∷ rest))
-    → (slice_cmp nat_cmp row.key first.key ≡ Equal → P (first ∷ rest)) → (slice_cmp nat_cmp row.key first.key ≡ Greater → P (first ∷ with_older row rest))
-    → P (with_older row (first ∷ rest))
-older_cases P row first rest less equal greater = go _ refl
-  where
-    made : Ordering → List StoredRow
-    made o = match_ordering o (row ∷ first ∷ rest) (first ∷ rest) (first ∷ with_older row rest)
-
-    go : (o : Ordering) → slice_cmp nat_cmp row.key first.key ≡ o → P (with_older row (first ∷ rest))
-    go Less is = subst P (sym (ap made is)) (less is)
-    go Equal is = subst P (sym (ap made is)) (equal is)
-    go Greater is = subst P (sym (ap made is)) (greater is)
+older_cases : (P : List StoredRow → Type 0) (row first : StoredRow) (rest : List StoredRow) → (slice_cmp nat_cmp row.key first.key ≡ Less → P (row ∷ first ∷ rest))
+    → (slice_cmp nat_cmp row.key first.key ≡ Equal → P (first ∷ rest)) → (slice_cmp nat_cmp row.key first.key ≡ Greater → P (first ∷ with_older row rest)) → P (with_older row (first ∷ rest))
+older_cases P row first rest less equal greater = search arith
 
 -- is above what both are above
 above_older : (low : List ℕ) (row : StoredRow) (rows : List StoredRow) → slice_cmp nat_cmp low row.key ≡ Less → Above low rows → Above low (with_older row rows)
 above_older low row [] less above = (less, tt)
-above_older low row (first ∷ rest) less above =
-    let further = above_older low row rest less above.1 in
-    older_cases (Above low) row first rest (λ is. (less, above)) (λ is. above) (λ is. (above.0, further))
+above_older low row (first ∷ rest) less above = search (arith, above_older low row rest less above.1, older_cases)
 
 -- and they rise with it
 rises_older : (row : StoredRow) (rows : List StoredRow) → Rises rows → Rises (with_older row rows)
@@ -135,10 +123,7 @@ behind_first false x new old other is = is
 -- the first row has the key of an older one
 kept_first : (row first : StoredRow) (rest : List StoredRow) (key : List ℕ) (b : Bool) → bytes_eq row.key key ≡ b → row.key ≡ first.key
     → row_with key (first ∷ rest) ≡ option_or (row_with key (first ∷ rest)) (own row key)
-kept_first row first rest key true has same =
-    let here : row_with key (first ∷ rest) ≡ Some first = cond-true _ _ _ (ap (λ k. bytes_eq k key) (sym same) ∙ has) in
-    here ∙ sym (ap (λ o. option_or o (own row key)) here)
-kept_first row first rest key false other same = sym (ap (option_or (row_with key (first ∷ rest))) (cond-false _ _ _ other) ∙ or_none _)
+kept_first row first rest key b has same = search (arith, cond-true, cond-false, or_none)
 
 -- the row of a key after one older row
 find_older : (row : StoredRow) (rows : List StoredRow) → Rises rows → (key : List ℕ) → row_with key (with_older row rows) ≡ option_or (row_with key rows) (own row key)
@@ -220,14 +205,12 @@ put_cases P row rows put other = search (arith, cases_Bool, put_first, no_put_fi
 
 above_puts : (key : List ℕ) (rows : List StoredRow) → Above key rows → Above key (filter is_put_row rows)
 above_puts key [] above = tt
-above_puts key (row ∷ rows) above =
-    let further = above_puts key rows above.1 in put_cases (Above key) row rows (λ put. (above.0, further)) (λ other. further)
+above_puts key (row ∷ rows) above = search (arith, above_puts key rows above.1, put_cases)
 
 -- they rise
 pub rises_puts : (rows : List StoredRow) → Rises rows → Rises (filter is_put_row rows)
 rises_puts [] rises = tt
-rises_puts (row ∷ rows) rises =
-    let further = rises_puts rows rises.1 in put_cases Rises row rows (λ put. (above_puts _ rows rises.0, further)) (λ other. further)
+rises_puts (row ∷ rows) rises = search (arith, rises_puts rows rises.1, put_cases, above_puts)
 
 -- the row of a key among them, with one row in front
 puts_more : (row : StoredRow) (rows : List StoredRow) (key : List ℕ) → row_with key (filter is_put_row rows) ≡ put_of (row_with key rows) → row_with row.key rows ≡ None
@@ -244,12 +227,7 @@ find_puts (row ∷ rows) rises key = puts_more row rows key (find_puts rows rise
 
 -- a row that is no put gives no value
 put_value : (o : Option StoredRow) → option_and_then value_given (put_of o) ≡ option_and_then value_given o
-put_value None = refl
-put_value (Some row) = go _ refl
-  where
-    go : (b : Bool) → (row.kind == 1) ≡ b → option_and_then value_given (put_of (Some row)) ≡ value_given row
-    go true put = ap (option_and_then value_given) (cond-true _ _ _ put)
-    go false other = cc (cond-false _ _ _ other)
+put_value o = search (arith, cond-true, cond-false)
 
 -- the map of the newest rows that are puts is that of all rows
 pub merged_map : (rows : List StoredRow) → map_of_rows (merged_rows rows) ≡ map_of_rows rows
@@ -272,9 +250,8 @@ charge_more row rows = sum_by-cons (λ (r : StoredRow). cond (r.kind == 1) 1 0) 
 charge_older : (row : StoredRow) (rows : List StoredRow) → put_count (with_older row rows) ≤ put_count (row ∷ rows)
 charge_older row [] = omega arith
 charge_older row (first ∷ rest) =
-    older_cases (λ rows. put_count rows ≤ put_count (row ∷ first ∷ rest)) row first rest
-    (λ is. omega arith) (λ is. omega (arith, charge_more row (first ∷ rest)))
-    (λ is. omega (arith, charge_older row rest, charge_more row (first ∷ rest), charge_more first rest, charge_more row rest, charge_more first (with_older row rest)))
+    older_cases (λ rows. put_count rows ≤ put_count (row ∷ first ∷ rest)) row first rest (λ is. omega arith) (λ is. omega (arith, charge_more row (first ∷ rest))) (λ is.
+    omega (arith, charge_older row rest, charge_more row (first ∷ rest), charge_more first rest, charge_more row rest, charge_more first (with_older row rest)))
 
 charge_newest : (rows : List StoredRow) → put_count (newest_rows rows) ≤ put_count rows
 charge_newest [] = omega arith
@@ -282,20 +259,11 @@ charge_newest (row ∷ rows) = omega (arith, charge_older row (newest_rows rows)
 
 charge_puts : (rows : List StoredRow) → (put_count (filter is_put_row rows) ≡ put_count rows) × (length (filter is_put_row rows) ≡ put_count rows)
 charge_puts [] = (refl, refl)
-charge_puts (row ∷ rows) =
-    let rest = charge_puts rows in
-    put_cases (λ l. (put_count l ≡ put_count (row ∷ rows)) × (length l ≡ put_count (row ∷ rows))) row rows
-    (λ put.
-    let one : cond {A = ℕ} (row.kind == 1) 1 0 ≡ 1 = cond-true _ _ _ put in
-    (omega (arith, rest.0, charge_more row rows, charge_more row (filter is_put_row rows)), omega (arith, rest.1, one, charge_more row rows)))
-    (λ other.
-    let none : cond {A = ℕ} (row.kind == 1) 1 0 ≡ 0 = cond-false _ _ _ other in
-    (omega (arith, rest.0, none, charge_more row rows), omega (arith, rest.1, none, charge_more row rows)))
+charge_puts (row ∷ rows) = search (arith, charge_puts rows, put_cases, cond-true, charge_more, cond-false)
 
 length_older : (row : StoredRow) (rows : List StoredRow) → length (with_older row rows) ≤ length rows + 1
 length_older row [] = omega arith
-length_older row (first ∷ rest) =
-    older_cases (λ rows. length rows ≤ length (first ∷ rest) + 1) row first rest (λ is. omega arith) (λ is. omega arith) (λ is. omega (arith, length_older row rest))
+length_older row (first ∷ rest) = search (arith, length_older row rest, older_cases)
 
 length_newest : (rows : List StoredRow) → length (newest_rows rows) ≤ length rows
 length_newest [] = omega arith

@@ -1,5 +1,5 @@
 -- Parts of a region that were read together, as parts of the bytes that were read.
-use Rattle.silt_merge.proofs.Common.{◌≡◌, ℕ, zero, suc, ◌+◌, ◌-◌, ◌*◌, ◌<◌, ◌≤◌, List, [], ◌∷◌, ◌++◌, get_or, length, refl, sym, subst, ap, ◌∙◌, arith, Shape, row_len, StoredRow, slot_row}
+use Rattle.silt_merge.proofs.Common.{◌≡◌, ℕ, zero, suc, ◌+◌, ◌-◌, ◌*◌, ◌<◌, ◌≤◌, List, [], ◌∷◌, ◌++◌, get_or, length, refl, sym, ap, ◌∙◌, arith, Shape, row_len, StoredRow, slot_row}
 use Rattle.silt_merge.proofs.Common.{AreEntries, AreSlots, parts_from}
 use Rattle.std.proofs.Common.{slice_range, length-append}
 use Rattle.std.proofs.Math.Seq.{take-append_seam}
@@ -28,10 +28,7 @@ holds_front rows place count len front rest long holds = λ i below.
 entries_from : (rows : List StoredRow) (bytes : List ℕ) (place len at count : ℕ) → ((i : ℕ) → at ≤ i → i < at + count → HasEntry rows (place + i) (slice_range bytes (i * len) (i * len + len)))
     → AreEntries rows (place + at) (parts_from bytes len at count)
 entries_from rows bytes place len at zero each = tt
-entries_from rows bytes place len at (suc count) each = (
-  each at (omega arith) (omega arith),
-  subst (λ p. AreEntries rows p (parts_from bytes len (at + 1) count)) (omega arith) (entries_from rows bytes place len (at + 1) count (λ i low high. each i (omega arith) (omega arith))),
-)
+entries_from rows bytes place len at (suc count) each = search (arith, entries_from rows bytes place len (at + 1) count)
 
 -- all of them
 pub are_entries : (rows : List StoredRow) (bytes : List ℕ) (place len count : ℕ) → HoldsEntries rows place count len bytes → AreEntries rows place (parts_from bytes len 0 count)
@@ -72,11 +69,7 @@ slots_from : (s : Shape) (region slot at count : ℕ) (image bytes : List ℕ) �
     → ((i : ℕ) → at ≤ i → i < at + count → slot_row s region image (slot + i) ≡ row_of (slice_range bytes (i * row_len s) (i * row_len s + row_len s)))
     → AreSlots s region image (slot + at) (parts_from bytes (row_len s) at count)
 slots_from s region slot at zero image bytes within each = tt
-slots_from s region slot at (suc count) image bytes within each = (
-  (omega (arith, within), each at (omega arith) (omega arith)),
-  subst (λ n. AreSlots s region image n (parts_from bytes (row_len s) (at + 1) count)) (omega arith)
-      (slots_from s region slot (at + 1) count image bytes (omega (arith, within)) (λ i low high. each i (omega arith) (omega arith))),
-)
+slots_from s region slot at (suc count) image bytes within each = search (arith, slots_from s region slot (at + 1) count image bytes)
 
 -- all of them
 pub are_slots : (s : Shape) (region slot count : ℕ) (image bytes : List ℕ) → slot + count ≤ 4 * s.buckets → HoldsSlots s region image slot count bytes

@@ -1,10 +1,8 @@
 -- What the read of a row gives.
-use Rattle.silt_merge.proofs.Common.{◌≡◌, ℕ, ◌<◌, List, [], ◌++◌, length, get_or, Option, Some, None, Ok, Err, refl, sym, ap, ◌∙◌, arith, Shape, slot_row, HashState, kind_byte, StoredRow}
-use Rattle.silt_merge.proofs.Common.{Row, IsRowAt, ReadsRow, regions_of, Source}
+use Rattle.silt_merge.proofs.Common.{◌≡◌, ℕ, ◌<◌, List, [], ◌++◌, length, get_or, Option, Some, None, Ok, Err, refl, ap, ◌∙◌, arith, Shape, slot_row, HashState, StoredRow, Row, IsRowAt}
+use Rattle.silt_merge.proofs.Common.{ReadsRow, regions_of, Source}
 use Rattle.std.proofs.Common.{Result, IfSome, OnOk, All}
 use Rattle.std.proofs.lemmas.List.{drop_at, get_or-map, take_at}
-use Rattle.silt_frame.specs.declared.key.Kind.{Kind}
-use Rattle.silt_frame.specs.declared.key.Kind.TheVariants.{Put, Delete}
 
 -- some hash store
 abbrev pub blank : HashState
@@ -20,10 +18,9 @@ pub store_at : (stores : List HashState) (place : ℕ) (store : HashState) → p
 store_at stores place store below is = cc (get_or-map (λ (s : HashState). s.region) stores place store 0 below)
 
 -- a key and the value of the row that decides
-pub row_read : {A E : Type 0} (result : Result A E) (shape : Shape) (image : List ℕ) (stores : List HashState) (store : HashState)
-    (key : List ℕ) (source : Source) (old front value : List ℕ) → source.store < length stores
-    → store ≡ get_or stores source.store store → All (λ s. s.shape ≡ shape) stores → front ≡ key → length front ≡ 20 → OnOk result (value ≡ (slot_row store.shape store.region image source.slot).value)
-    → OnOk result (ReadsRow shape image (regions_of stores) key (Some source) old (front ++ value))
+pub row_read : {A E : Type 0} (result : Result A E) (shape : Shape) (image : List ℕ) (stores : List HashState) (store : HashState) (key : List ℕ) (source : Source) (old front value : List ℕ)
+    → source.store < length stores → store ≡ get_or stores source.store store → All (λ s. s.shape ≡ shape) stores → front ≡ key → length front ≡ 20
+    → OnOk result (value ≡ (slot_row store.shape store.region image source.slot).value) → OnOk result (ReadsRow shape image (regions_of stores) key (Some source) old (front ++ value))
 row_read result shape image stores store key source old front value below is shapes same long read =
     let own_shape : store.shape ≡ shape = ap (λ (s : HashState). s.shape) is ∙ shapes source.store store below in
     weaker_on_ok result (λ got puts.
@@ -37,18 +34,4 @@ each_source (Some source) each = each source refl
 
 -- a slot has one row
 pub one_row : (stored : StoredRow) (slot : ℕ) (a b : Option Row) → IsRowAt stored slot a → IsRowAt stored slot b → a ≡ b
-one_row stored slot None None first second = refl
-one_row stored slot None (Some b) first second = let known = second.known in absurd (cc)
-one_row stored slot (Some a) None first second = let known = first.known in absurd (cc)
-one_row stored slot (Some a) (Some b) first second =
-    let kind : a.kind ≡ b.kind = one_kind a.kind b.kind (first.kind ∙ sym second.kind) in
-    let key : a.key.0 ≡ b.key.0 = first.key ∙ sym second.key in
-    let place : a.place ≡ b.place = first.place ∙ sym second.place in
-    ap Some (ap (λ k. let r : Row = record a { kind = k } in r) kind
-    ∙ ap (λ k. let r : Row = record { kind = b.kind; key = record { 0 = k }; place = a.place } in r) key ∙ ap (λ p. let r : Row = record b { place = p } in r) place)
-  where
-    one_kind : (k l : Kind) → kind_byte k ≡ kind_byte l → k ≡ l
-    one_kind Put Put same = refl
-    one_kind Put Delete same = absurd (omega (arith, same))
-    one_kind Delete Put same = absurd (omega (arith, same))
-    one_kind Delete Delete same = refl
+one_row stored slot a b first second = search arith

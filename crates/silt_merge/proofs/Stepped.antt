@@ -22,9 +22,8 @@ use Rattle.silt_merge.proofs.Making.{made_none, stayed}
 use Rattle.silt_merge.proofs.Reading.{store_at}
 
 -- what is damaged while a merge gathers
-pub gathering_place : (stores : List HashState) (merge : MergeState) (store : HashState) (region : ℕ) → merge.store < merge.stores
-    → length stores ≡ merge.stores → store ≡ get_or stores merge.store store → region ≡ store.region
-    → HashDigest region ≡ damaged_place stores merge
+pub gathering_place : (stores : List HashState) (merge : MergeState) (store : HashState) (region : ℕ) → merge.store < merge.stores → length stores ≡ merge.stores
+    → store ≡ get_or stores merge.store store → region ≡ store.region → HashDigest region ≡ damaged_place stores merge
 gathering_place stores merge store region below counted here is = search (arith, store_at, cond-true, lt-ltb)
 
 -- and what is once all slots are gathered
@@ -42,9 +41,8 @@ same_merge merge = record { shape = refl; region = refl; stores = refl }
 module _ {D F : Type 0} (facts : Ghosts D F) (stores : List HashState) (sorted : SortedState) (digest : List ℕ) where
   -- a step that did nothing
   idle : {T : Type 0} (disk : D) (before : MergeState) (error : StepError F)
-      → ((place : Place) → before.damaged ≡ Some place → (let r : Result T (StepError F) = Err error in r) ≡ Err (Damaged place))
-      → IsHeldMerge before → FailsMerge facts stores sorted disk disk before before error
-      → TakesStep {T = T} facts stores sorted digest disk disk before before (Err error)
+      → ((place : Place) → before.damaged ≡ Some place → (let r : Result T (StepError F) = Err error in r) ≡ Err (Damaged place)) → IsHeldMerge before
+      → FailsMerge facts stores sorted disk disk before before error → TakesStep {T = T} facts stores sorted digest disk disk before before (Err error)
   idle {T} disk before error stuck held fails = search (arith, most_none, within_refl, same_merge, stayed)
 
   -- one that was refused before it wrote
@@ -86,8 +84,7 @@ module _ {D F : Type 0} (facts : Ghosts D F) (stores : List HashState) (sorted :
 
     -- a step whose write failed
     pub broke : {T : Type 0} (fault : F) → after.last ≡ before.last → after.written ≡ before.written → MakesAtMost facts.writes facts.syncs 1 0 old new
-        → CountsFault facts.failures facts.gave old new fault
-        → TakesStep {T = T} facts stores sorted digest old new before after (Err (Write fault))
+        → CountsFault facts.failures facts.gave old new fault → TakesStep {T = T} facts stores sorted digest old new before after (Err (Write fault))
     broke fault last written most counts = search (arith, none_stuck, in_region, stayed)
 
   -- ---- what is read ahead first

@@ -1,13 +1,11 @@
 -- What each step of a merge leaves.
-use Rattle.silt_merge.proofs.Common.{◌≡◌, ◌≢◌, ℕ, ◌+◌, ◌*◌, ◌<◌, ◌≤◌, ◌⊎◌, eqb, Bool, true, false, cond, IsTrue, List, [], ◌∷◌, ◌++◌, length, get_or, take, Option, Some, None, inl, inr}
-use Rattle.silt_merge.proofs.Common.{refl, sym, subst, ap, ◌∙◌, arith, option_or, cases_Bool, cond-true, cond-false, eq-eqb, eqb-true, le-ltb, Content, Shape, row_len, Key, Row, IsRowAt}
-use Rattle.silt_merge.proofs.Common.{slot_row, HashState, newest_row, SortedState, StoredRow, entries_bytes, keys_of, rows_bytes, Gathers, HasMerged, AreSlots, parts_after, entries_in}
-use Rattle.silt_merge.proofs.Common.{has_row_with, regions_of, IsHeldMerge, MergeState, ends_store, input_after, slot_after, source_at, BuilderState, IsBuildingOf, is_above, Source, Holds}
-use Rattle.silt_merge.proofs.Common.{Sha1, HasTaken, Taken}
+use Rattle.silt_merge.proofs.Common.{◌≡◌, ◌≢◌, ℕ, ◌+◌, ◌*◌, ◌<◌, ◌≤◌, ◌⊎◌, eqb, true, cond, IsTrue, List, [], ◌∷◌, length, get_or, take, Option, Some, None, inl, inr, refl, sym, subst, ap}
+use Rattle.silt_merge.proofs.Common.{◌∙◌, arith, cases_Bool, cond-true, cond-false, eq-eqb, eqb-true, le-ltb, Content, Shape, row_len, Key, Row, IsRowAt, slot_row, HashState, newest_row}
+use Rattle.silt_merge.proofs.Common.{SortedState, StoredRow, entries_bytes, rows_bytes, Gathers, HasMerged, AreSlots, parts_after, entries_in, has_row_with, regions_of, IsHeldMerge}
+use Rattle.silt_merge.proofs.Common.{MergeState, ends_store, input_after, slot_after, source_at, BuilderState, IsBuildingOf, Source, Holds, Sha1, HasTaken, Taken}
 use Rattle.std.proofs.Common.{take_all}
 use Rattle.silt_hash_store.specs.Slots.{rows_before}
 use Rattle.silt_sorted_store.specs.State.{sorted_rows}
-use Rattle.silt_merge.specs.Choice.{own_source}
 use Rattle.silt_merge.specs.Merging.{decided_rows, gathered_rows}
 use Rattle.silt_merge.proofs.Comparing.{slot_bytes}
 use Rattle.silt_merge.proofs.Elsewhere.{regions_count}
@@ -48,29 +46,8 @@ pub started : (content : Content) (stores : List HashState) (sorted : SortedStat
       hasher = hasher;
       damaged = None;
     })
-started content stores sorted shape region waiting index slots ahead input hasher same apart none no_keys none_read none_ahead fresh_input fresh = record {
-  shape = sym same;
-  counted = refl;
-  apart = apart;
-  hashed = λ honest. subst (λ (rows : List StoredRow). Holds hasher (entries_bytes rows)) (sym nothing) fresh;
-  merged = λ honest sound. record {
-    gathered = record {
-      most = omega arith;
-      waits = λ key. cc (none_gathered sorted.shape content.shown (regions_of stores) 0);
-      last = λ key some. absurd (cc);
-      slots = λ below. rw none_read tt;
-      ahead = rw none_ahead tt;
-      passes = λ place below. sym (le-ltb place 0 (omega arith));
-      slots_hashed = λ below. subst (λ (rows : List StoredRow). HasTaken input (rows_bytes rows)) (sym (no_slots _ _ _)) fresh_input;
-      entries_hashed = λ past. fresh_input;
-    };
-    writes = nothing ∙ sym (take_all shape.sorted_capacity [] (omega arith));
-    index = subst (λ (rows : List StoredRow). IsBuildingOf (keys_of rows) index.building) (sym nothing) no_keys;
-  };
-}
-  where
-    nothing : sorted_rows shape region 0 content.shown ≡ []
-    nothing = none_written shape region _
+started content stores sorted shape region waiting index slots ahead input hasher same apart none no_keys none_read none_ahead fresh_input fresh =
+    search (arith, none_gathered, le-ltb, no_slots, take_all, none_written)
 
 -- ---- a slot that is gathered
 
@@ -93,77 +70,20 @@ after_last store slot slots = search (arith, cases_Bool, cond-true, cond-false, 
 -- a row that waits names a slot of the stores
 kept_inside : (merge : MergeState) (row : Option Row) (after : List (Key × Source)) → IsHeldMerge merge → merge.store < merge.stores → Gathers merge.store merge.slot row merge.waiting after
     → (key : List ℕ) (source : Source) → source_at after key ≡ Some source → (source.store < merge.stores) × (source.slot < 4 * merge.shape.buckets)
-kept_inside merge None after held below keeps key source is = let inside = held.inside key source (sym (keeps key) ∙ is) in (inside.store, inside.slot)
-kept_inside merge (Some row) after held below keeps key source is =
-    let go : (o : Option Source) → source_at merge.waiting key ≡ o → option_or o (own_source merge.store merge.slot row key) ≡ Some source
-    → (source.store < merge.stores) × (source.slot < 4 * merge.shape.buckets) = elim [
-      | Some other ↦ λ was found. let same : other ≡ source = cc in let inside = held.inside key source (was ∙ ap Some same) in (inside.store, inside.slot)
-      | None ↦ λ was found. own_inside _ found
-    ] in
-    go (source_at merge.waiting key) refl (sym (keeps key) ∙ is)
-  where
-    own_inside : (b : Bool) → cond b (Some (record { kind = row.kind; store = merge.store; slot = merge.slot })) None ≡ Some source
-        → (source.store < merge.stores) × (source.slot < 4 * merge.shape.buckets)
-    own_inside true found =
-        let same : record { kind = row.kind; store = merge.store; slot = merge.slot } ≡ source = cc in
-        rw (← same) (below, held.slot)
-    own_inside false found = absurd (cc)
+kept_inside merge row after held below keeps key source is = search arith
 
 -- a merge with one slot more
-pub gathered_held : (merge : MergeState) (row : Option Row) (after : List (Key × Source)) (next : ℕ × ℕ) (slots : List (List ℕ)) (input : Taken)
-    → IsHeldMerge merge → merge.store < merge.stores → Gathers merge.store merge.slot row merge.waiting after
-    → length after ≤ length merge.waiting + 1 → next ≡ slot_after merge.store merge.slot (4 * merge.shape.buckets)
-    → IsHeldMerge (record merge { store = next.0; slot = next.1; waiting = after; slots = slots; input = input })
-gathered_held merge row after next slots input held below keeps long is =
-    let count : next.0 * (4 * merge.shape.buckets) + next.1 ≡ merge.store * (4 * merge.shape.buckets) + merge.slot + 1 =
-    cc (slots_more merge.store merge.slot (4 * merge.shape.buckets)) in
-    let place = where_next (after_last _ _ _) in
-    record {
-      there = held.there;
-      store = place.0;
-      slot = place.1;
-      ended = place.2;
-      gathers = λ still. held.gathers below;
-      fresh = λ still. held.fresh below;
-      unpassed = λ still. held.unpassed below;
-      above = λ key source found. ap (λ o. is_above o key) (held.fresh below);
-      inside = λ key source found. let inside = kept_inside merge row after held below keeps key source found in record { store = inside.0; slot = inside.1 };
-      room = held.room;
-      few = omega (arith, held.few, count, long);
-      index = held.index;
-    }
-  where
-    where_next : (slot_after merge.store merge.slot (4 * merge.shape.buckets) ≡ (merge.store + 1, 0))
-        ⊎ ((slot_after merge.store merge.slot (4 * merge.shape.buckets) ≡ (merge.store, merge.slot + 1)) × (merge.slot + 1 ≢ 4 * merge.shape.buckets))
-        → (next.0 ≤ merge.stores) × (next.1 < 4 * merge.shape.buckets) × (next.0 ≡ merge.stores → next.1 ≡ 0)
-    where_next (inl last) =
-        let store : next.0 ≡ merge.store + 1 = ap (λ (p : ℕ × ℕ). p.0) (is ∙ last) in
-        let slot : next.1 ≡ 0 = ap (λ (p : ℕ × ℕ). p.1) (is ∙ last) in
-        (omega (arith, below), omega (arith, held.slot), λ same. slot)
-    where_next (inr further) =
-        let store : next.0 ≡ merge.store = ap (λ (p : ℕ × ℕ). p.0) (is ∙ further.0) in
-        let slot : next.1 ≡ merge.slot + 1 = ap (λ (p : ℕ × ℕ). p.1) (is ∙ further.0) in
-        let apart = further.1 in
-        (omega (arith, below), omega (arith, held.slot), λ same. absurd (omega (arith, below)))
+pub gathered_held : (merge : MergeState) (row : Option Row) (after : List (Key × Source)) (next : ℕ × ℕ) (slots : List (List ℕ)) (input : Taken) → IsHeldMerge merge
+    → merge.store < merge.stores → Gathers merge.store merge.slot row merge.waiting after → length after ≤ length merge.waiting + 1
+    → next ≡ slot_after merge.store merge.slot (4 * merge.shape.buckets) → IsHeldMerge (record merge { store = next.0; slot = next.1; waiting = after; slots = slots; input = input })
+gathered_held merge row after next slots input held below keeps long is = search (arith, slots_more, after_last, kept_inside, held.gathers, held.fresh, held.unpassed)
 
 -- the slots that are ahead after one are the next ones, and there are none behind the last slot of a store
 slots_next : (s : Shape) (regions image : List ℕ) (store slot : ℕ) (slots : List (List ℕ)) → AreSlots s (get_or regions store 0) image slot slots
     → AreSlots s (get_or regions (slot_after store slot (4 * s.buckets)).0 0) image (slot_after store slot (4 * s.buckets)).1 (parts_after true slots)
 slots_next s regions image store slot [] are = tt
 slots_next s regions image store slot (part ∷ []) are = tt
-slots_next s regions image store slot (part ∷ other ∷ slots) are =
-    let rest : AreSlots s (get_or regions store 0) image (slot + 1) (other ∷ slots) = are.1 in
-    elim (after_last store slot _) [
-      | inl last ↦ absurd (not_last _ refl last rest.0.0)
-      | inr further ↦ subst (λ (p : ℕ × ℕ). AreSlots s (get_or regions p.0 0) image p.1 (other ∷ slots)) (sym further.0) rest
-    ]
-  where
-    not_last : (b : Bool) → eqb (slot + 1) (4 * s.buckets) ≡ b → slot_after store slot (4 * s.buckets) ≡ (store + 1, 0) → slot + 1 < 4 * s.buckets → ⊥
-    not_last true same last below = omega (arith, eqb-true (slot + 1) (4 * s.buckets) same, below)
-    not_last false other last below =
-        let further : slot_after store slot (4 * s.buckets) ≡ (store, slot + 1) = cond-false _ _ _ other in
-        let zero_slot : slot + 1 ≡ 0 = sym (ap (λ (p : ℕ × ℕ). p.1) further) ∙ ap (λ (p : ℕ × ℕ). p.1) last in
-        omega (arith, zero_slot)
+slots_next s regions image store slot (part ∷ other ∷ slots) are = search (arith, after_last, eqb-true, cond-false)
 
 -- the hashed bytes are those of the slots before the next one, or none before the first of the next store
 input_next : (s : Shape) (regions image : List ℕ) (store slot : ℕ) (slots : List (List ℕ)) (input : Taken) → 0 < length slots
@@ -171,22 +91,7 @@ input_next : (s : Shape) (regions image : List ℕ) (store slot : ℕ) (slots : 
     → HasTaken input (input_after (eqb (slot + 1) (4 * s.buckets)) (rows_bytes (rows_before s (get_or regions store 0) image slot)) (get_or slots 0 []))
     → ((slot_after store slot (4 * s.buckets)).0 ≡ store + 1 → HasTaken input [])
     × HasTaken input (rows_bytes (rows_before s (get_or regions (slot_after store slot (4 * s.buckets)).0 0) image (slot_after store slot (4 * s.buckets)).1))
-input_next s regions image store slot slots input some long are holds = elim (cases_Bool (eqb (slot + 1) (4 * s.buckets))) [
-  | inl last ↦
-      let nothing : HasTaken input [] = rw last at holds in
-      let next : slot_after store slot (4 * s.buckets) ≡ (store + 1, 0) = cond-true _ _ _ last in (
-        λ same. nothing,
-        subst (λ (p : ℕ × ℕ). HasTaken input (rows_bytes (rows_before s (get_or regions p.0 0) image p.1))) (sym next)
-            (subst (λ (rows : List StoredRow). HasTaken input (rows_bytes rows)) (sym (no_slots s _ image)) nothing),
-      )
-  | inr other ↦
-      let more : HasTaken input (rows_bytes (rows_before s (get_or regions store 0) image slot) ++ get_or slots 0 []) = rw other at holds in
-      let next : slot_after store slot (4 * s.buckets) ≡ (store, slot + 1) = cond-false _ _ _ other in (
-        λ same. let here : store ≡ store + 1 = sym (ap (λ (p : ℕ × ℕ). p.0) next) ∙ same in absurd (omega (arith, here)),
-        subst (λ (p : ℕ × ℕ). HasTaken input (rows_bytes (rows_before s (get_or regions p.0 0) image p.1))) (sym next)
-            (subst (HasTaken input) (sym (slot_bytes s _ image slot slots some long are)) more),
-      )
-]
+input_next s regions image store slot slots input some long are holds = search (arith, cases_Bool, cond-true, no_slots, cond-false, slot_bytes)
 
 -- has gathered one slot more
 pub gathered_step : (content : Content) (stores : List HashState) (sorted : SortedState) (merge : MergeState) (row : Option Row)
@@ -220,18 +125,16 @@ gathered_step content stores sorted merge row after next input held below some l
       ∙ ap (λ (t : Shape). gathered_rows s image regions (slot_after merge.store merge.slot (4 * t.buckets)).0 (slot_after merge.store merge.slot (4 * t.buckets)).1) (sym so_far.shape)
       ∙ next_gathered s image regions merge.store merge.slot within in
       let same_next : slot_after merge.store merge.slot (4 * s.buckets) ≡ next = ap (λ (t : Shape). slot_after merge.store merge.slot (4 * t.buckets)) so_far.shape ∙ sym is in
-      let holds = input_next s regions image merge.store merge.slot merge.slots input some (long ∙ ap row_len (sym so_far.shape)) (was.gathered.slots inside)
-      (subst (λ (t : Shape). HasTaken input (input_after (eqb (merge.slot + 1) (4 * t.buckets))
-      (rows_bytes (rows_before s (get_or regions merge.store 0) image merge.slot)) (get_or merge.slots 0 []))) (sym so_far.shape)
+      let holds = input_next s regions image merge.store merge.slot merge.slots input some (long ∙ ap row_len (sym so_far.shape)) (was.gathered.slots inside) (subst (λ (t : Shape). HasTaken
+      input (input_after (eqb (merge.slot + 1) (4 * t.buckets)) (rows_bytes (rows_before s (get_or regions merge.store 0) image merge.slot)) (get_or merge.slots 0 []))) (sym so_far.shape)
       (hashed (rows_bytes (rows_before s (get_or regions merge.store 0) image merge.slot)) (was.gathered.slots_hashed inside))) in
       record {
         gathered = record {
           most = was.gathered.most;
           waits = λ key. kept key ∙ ap (λ l. newest_row l key) (sym moved) ∙ sym (first key (gathered_rows s image regions next.0 next.1));
           last = was.gathered.last;
-          slots = λ further.
-              subst (λ (p : ℕ × ℕ). AreSlots s (get_or regions p.0 0) image p.1 (parts_after true merge.slots)) same_next
-              (slots_next s regions image merge.store merge.slot merge.slots (was.gathered.slots inside));
+          slots = λ further. subst (λ (p : ℕ × ℕ). AreSlots s (get_or regions p.0 0) image p.1 (parts_after true merge.slots)) same_next (slots_next s regions image merge.store merge.slot
+              merge.slots (was.gathered.slots inside));
           ahead = was.gathered.ahead;
           passes = was.gathered.passes;
           slots_hashed = λ further. subst (λ (p : ℕ × ℕ). HasTaken input (rows_bytes (rows_before s (get_or regions p.0 0) image p.1))) same_next holds.1;

@@ -1,6 +1,6 @@
 -- What a step does that gathers a slot, and one that decides a key.
 use Rattle.silt_merge.proofs.Common.{◌≡◌, ℕ, ◌+◌, ◌*◌, ◌<◌, nat_lt, Bool, true, false, IsTrue, List, [], ◌++◌, length, get_or, Option, Some, None, Ok, Err, ◌⊎◌, inl, inr, refl, sym, subst}
-use Rattle.silt_merge.proofs.Common.{ap, ◌∙◌, arith, Content, Shape, entry_len, row_len, HashDigest, SortedDigest, Key, Row, IsRowAt, slot_row, HashState, SortedState, entries_of, Gathers}
+use Rattle.silt_merge.proofs.Common.{ap, arith, Content, Shape, entry_len, row_len, HashDigest, SortedDigest, Key, Row, IsRowAt, slot_row, HashState, SortedState, entries_of, Gathers}
 use Rattle.silt_merge.proofs.Common.{IsNextEntry, MatchesDigests, AreSound, HasMerged, AreEntries, AreSlots, parts_after, regions_of, IsHeldMerge, MergeState, ends_entries, ends_store}
 use Rattle.silt_merge.proofs.Common.{finding, input_after, is_behind, slot_after, source_at, TakesStep, Source, NoMemory, HasTaken, Taken}
 use Rattle.std.proofs.Common.{All, is_some, IsSomeAnd}
@@ -55,13 +55,11 @@ module _ {D F : Type 0} (facts : Ghosts D F) (stores : List HashState) (disk : D
         let taken : MergeState = record merge { store = next.0; slot = next.1; waiting = waiting; slots = parts_after true merge.slots; input = input } in
         let moved : MergeState = record taken { damaged = finding fits (HashDigest region) } in
         let further = slots_more merge.store merge.slot (4 * merge.shape.buckets) in
-        subst (λ (m : MergeState). TakesStep facts stores sorted digest disk disk merge m (Ok x)) (sym is)
-        (went_on facts stores sorted digest disk merge moved x (record { shape = refl; region = refl; stores = refl }) (subst IsHeldMerge is held_after) refl refl (omega (arith, further)) sound
-        (λ was. merged_noted (facts.content disk) stores sorted taken (finding fits (HashDigest region))
-        (gathered_step (facts.content disk) stores sorted merge row waiting next input held below some long hashed
-        (λ honest same slots. shown sorted.shape (get_or (regions_of stores) merge.store 0) (facts.content disk).shown slots) keeps refl was))
-        (compared_slot stores sorted digest merge fits (HashDigest region) sound store next waiting (parts_after true merge.slots) input held below long here may hashed refl)
-        (slot_finds region fits region_is may sorted digest))
+        subst (λ (m : MergeState). TakesStep facts stores sorted digest disk disk merge m (Ok x)) (sym is) (went_on facts stores sorted digest disk merge moved x
+        (record { shape = refl; region = refl; stores = refl }) (subst IsHeldMerge is held_after) refl refl (omega (arith, further)) sound (λ was. merged_noted (facts.content disk) stores
+        sorted taken (finding fits (HashDigest region)) (gathered_step (facts.content disk) stores sorted merge row waiting next input held below some long hashed (λ honest same slots. shown
+        sorted.shape (get_or (regions_of stores) merge.store 0) (facts.content disk).shown slots) keeps refl was)) (compared_slot stores sorted digest merge fits (HashDigest region) sound
+        store next waiting (parts_after true merge.slots) input held below long here may hashed refl) (slot_finds region fits region_is may sorted digest))
 
     -- it is that of the slot that the disk shows, if the merge goes on well
     shows_row : (sorted : SortedState) → HasMerged (facts.content disk) stores sorted merge → AreSound (facts.content disk).shown stores sorted → IsTrue (facts.content disk).honest
@@ -76,12 +74,7 @@ module _ {D F : Type 0} (facts : Ghosts D F) (stores : List HashState) (disk : D
     takes_row : (o : Option Row) → row ≡ o → IsSomeAnd o (λ (r : Row). source_at merge.waiting r.key.0 ≡ None)
         → (IsTrue (facts.content disk).honest → IsRowAt (slot_row merge.shape (get_or (regions_of stores) merge.store 0) (facts.content disk).shown merge.slot) merge.slot o)
         → GathersRow (facts.content disk) stores merge
-    takes_row None is never shows = absurd never
-    takes_row (Some r) is new shows = record {
-      gathers = below;
-      known = λ honest. let it = shows honest in it.known;
-      new_key = λ honest. let it = shows honest in ap (source_at merge.waiting) (sym it.key) ∙ new;
-    }
+    takes_row o is never shows = search arith
 
     pub row_refused : {T : Type 0} (after : MergeState) → merge.damaged ≡ None → IsSomeAnd row (λ (r : Row). source_at merge.waiting r.key.0 ≡ None) → after ≡ merge
         → (sorted : SortedState) (digest : List ℕ) → TakesStep {T = T} facts stores sorted digest disk disk merge after (Err NoMemory)
@@ -120,8 +113,6 @@ pub entry_skipped : {D F T : Type 0} (facts : Ghosts D F) (stores : List HashSta
 entry_skipped facts stores sorted digest disk merge after fits next bytes input x held all sound some_ahead some there behind long may hashed is held_after =
     let taken : MergeState = record merge { passed = merge.passed + 1; decided = merge.decided + 1; ahead = parts_after true merge.ahead; input = input } in
     let moved : MergeState = record taken { damaged = finding fits SortedDigest } in
-    rw (← is) at (went_on facts stores sorted digest disk merge moved x (record { shape = refl; region = refl; stores = refl }) (subst IsHeldMerge is held_after) refl
-    refl (omega arith) sound (λ was. merged_noted (facts.content disk) stores sorted taken (finding fits SortedDigest) (merged_behind (facts.content disk) stores sorted
-    merge next bytes input held all some there behind was)) (compared_key stores sorted digest merge fits SortedDigest sound true merge.waiting merge.written merge.index
-    (merge.decided + 1) merge.last (parts_after true merge.ahead) input merge.hasher held all (λ passes. long) may hashed) (entry_finds (facts.content disk) stores sorted
-    digest merge true fits all some_ahead may))
+    rw (← is) at (went_on facts stores sorted digest disk merge moved x (record { shape = refl; region = refl; stores = refl }) (subst IsHeldMerge is held_after) refl refl (omega arith)
+    sound (λ was. merged_noted _ stores sorted taken _ (merged_behind _ stores sorted merge next bytes input held all some there behind was)) (compared_key stores sorted digest merge fits _
+    sound true _ _ _ _ _ _ input _ held all (λ passes. long) may hashed) (entry_finds _ stores sorted digest merge true fits all some_ahead may))

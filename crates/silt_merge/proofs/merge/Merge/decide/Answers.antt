@@ -11,8 +11,7 @@ returns-in-Err g c =
 pub returns-in-Ok-decide_next : goal.returns-in-Ok-decide_next
 returns-in-Ok-decide_next g c =
     let before : MergeState = c.args.self.now in
-    read_and_went g.D.Disk _ _ _ _ _ before _ _ (rw c.in-Ok.ensures.state at (c.in-Ok.ensures.merged c.args.stores.now)) _ _ (rw c.in-Ok.ensures.state at
-    c.in-Ok-decide_next.ensures)
+    read_and_went g.D.Disk _ _ _ _ _ before _ _ (rw c.in-Ok.ensures.state at (c.in-Ok.ensures.merged c.args.stores.now)) _ _ (rw c.in-Ok.ensures.state at c.in-Ok-decide_next.ensures)
 
 pub returns-in-Err-decide_next : goal.returns-in-Err-decide_next
 returns-in-Err-decide_next g c =
@@ -23,7 +22,6 @@ returns-in-Err-decide_next g c =
     → HasMerged (g.D.Disk.content c.args.disk.now) c.args.stores.now c.args.sorted.now m) c.in-Ok.ensures.state (c.in-Ok.ensures.merged c.args.stores.now))
     mid c.forget_ahead.new.self mid.slots (ahead_without c.in-Ok.is_read mid.ahead) c.in-Err-decide_next.error c.forget_ahead.ensures.state
     (λ back. c.forget_ahead.ensures.state ∙ ap (λ (m : MergeState). let r : MergeState = record m { ahead = ahead_without c.in-Ok.is_read m.ahead } in r) back
-    ∙ ap (λ l. let r : MergeState = record before { ahead = l } in r) c.in-Ok.ensures.before)
-    c.forget_ahead.ensures.held
+    ∙ ap (λ l. let r : MergeState = record before { ahead = l } in r) c.in-Ok.ensures.before) c.forget_ahead.ensures.held
     (subst (λ (m : MergeState). TakesStep g.D.Disk c.args.stores.now c.args.sorted.now c.args.digest.now.0 c.args.disk.now
     c.decide_next.new.disk m mid (Err c.in-Err-decide_next.error)) c.in-Ok.ensures.state c.in-Err-decide_next.ensures)

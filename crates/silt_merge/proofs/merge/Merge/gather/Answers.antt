@@ -22,7 +22,6 @@ returns-in-Err-gather_ahead g c = λ sorted digest.
     → HasMerged (g.D.Disk.content c.args.disk.now) c.args.stores.now sorted m) c.in-Ok.ensures.state (c.in-Ok.ensures.merged sorted))
     mid c.forget_slots.new.self (ahead_without c.in-Ok.is_read mid.slots) mid.ahead c.in-Err-gather_ahead.error c.forget_slots.ensures.state
     (λ back. c.forget_slots.ensures.state ∙ ap (λ (m : MergeState). let r : MergeState = record m { slots = ahead_without c.in-Ok.is_read m.slots } in r) back
-    ∙ ap (λ l. let r : MergeState = record before { slots = l } in r) c.in-Ok.ensures.slots.0)
-    c.forget_slots.ensures.held
+    ∙ ap (λ l. let r : MergeState = record before { slots = l } in r) c.in-Ok.ensures.slots.0) c.forget_slots.ensures.held
     (subst (λ (m : MergeState). TakesStep g.D.Disk c.args.stores.now sorted digest c.args.disk.now c.args.disk.now m mid (Err c.in-Err-gather_ahead.error))
     c.in-Ok.ensures.state (c.in-Err-gather_ahead.ensures.step sorted digest))

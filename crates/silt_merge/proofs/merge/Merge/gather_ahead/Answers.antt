@@ -8,11 +8,10 @@ returns-in-Ok-clause-step g c =
     let store : HashState = c.index-stores-self.result in
     let here = subst (λ (m : MergeState). store ≡ get_or c.args.stores.now m.store store) c.self.view_is c.index-stores-self.is in
     let region : ℕ = c.region.result in
-    slot_taken g.D.Disk c.args.stores.now c.args.disk.now merge store c.may_take_slot-fits.ensures.held c.requires.more c.requires.count
-    c.requires.shapes c.requires.there c.may_take_slot-fits.ensures.len here
-    c.row_ahead-row.result c.row_ahead-row.ensures region c.may_take_slot-fits.result c.region.ensures.value c.requires.sound
-    c.take_row.new.self.waiting c.take_row.new.self.input c.note.new.self _ c.may_take_slot-fits.ensures.answer c.in-Ok.ensures.gathers c.in-Ok.ensures.hashed
-    (c.note.ensures.state ∙ ap (λ (m : MergeState). let r : MergeState = record m { damaged = finding c.may_take_slot-fits.result (HashDigest region) } in r) c.in-Ok.ensures.state) c.note.ensures.held
+    slot_taken g.D.Disk c.args.stores.now c.args.disk.now merge store c.may_take_slot-fits.ensures.held c.requires.more c.requires.count c.requires.shapes c.requires.there
+    c.may_take_slot-fits.ensures.len here c.row_ahead-row.result c.row_ahead-row.ensures region c.may_take_slot-fits.result c.region.ensures.value c.requires.sound
+    c.take_row.new.self.waiting c.take_row.new.self.input c.note.new.self _ c.may_take_slot-fits.ensures.answer c.in-Ok.ensures.gathers c.in-Ok.ensures.hashed (c.note.ensures.state ∙ ap
+    (λ (m : MergeState). let r : MergeState = record m { damaged = finding c.may_take_slot-fits.result (HashDigest region) } in r) c.in-Ok.ensures.state) c.note.ensures.held
 
 pub returns-in-Ok-clause-slot : goal.returns-in-Ok-clause-slot
 returns-in-Ok-clause-slot g c =
@@ -23,6 +22,5 @@ returns-in-Err-clause-step g c =
     let merge : MergeState = c.args.self.now in
     let store : HashState = c.index-stores-self.result in
     let here = subst (λ (m : MergeState). store ≡ get_or c.args.stores.now m.store store) c.self.view_is c.index-stores-self.is in
-    row_refused g.D.Disk c.args.stores.now c.args.disk.now merge store c.may_take_slot-fits.ensures.held c.requires.more c.requires.count
-    c.requires.shapes c.requires.there c.may_take_slot-fits.ensures.len here
-    c.row_ahead-row.result c.row_ahead-row.ensures c.take_row.new.self c.requires.sound c.in-Err.ensures.new_key c.in-Err.ensures.err
+    row_refused g.D.Disk c.args.stores.now c.args.disk.now merge store c.may_take_slot-fits.ensures.held c.requires.more c.requires.count c.requires.shapes c.requires.there
+    c.may_take_slot-fits.ensures.len here c.row_ahead-row.result c.row_ahead-row.ensures c.take_row.new.self c.requires.sound c.in-Err.ensures.new_key c.in-Err.ensures.err

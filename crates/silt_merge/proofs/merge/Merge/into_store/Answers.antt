@@ -15,6 +15,5 @@ returns-clause-entries c =
 pub returns-clause-merge : goal.returns-clause-merge
 returns-clause-merge c =
     let store = c.new.ensures.store ∙ c.entries-entries.ensures ∙ ap sorted_in (sym c.self.view_is) in
-    rw (← c.self.view_is) (λ content stores sorted done is honest sound room.
-    subst (IsMergeOf (sources content.shown stores sorted)) (sym (ap (entries_of content) store))
-    (done_merge (state_of c.self.inside) sorted content stores c.self.invariant.0 done is honest sound room))
+    rw (← c.self.view_is) (λ content stores sorted done is honest sound room. subst (IsMergeOf (sources content.shown stores sorted)) (sym (ap (entries_of content) store)) (done_merge
+    (state_of c.self.inside) sorted content stores c.self.invariant.0 done is honest sound room))

@@ -13,9 +13,7 @@ returns-then-not-is_empty-clause-steps c =
 pub returns-clause-steps : goal.returns-clause-steps
 returns-clause-steps c =
     let merge : MergeState = state_of c.self.inside in
-    rw (← c.self.view_is) (λ content stores is honest sound.
-    done_steps merge c.args.sorted.now content stores _
-    (ap (λ n. nat_le n c.self.inside.passed) c.len.ensures.value
+    rw (← c.self.view_is) (λ content stores is honest sound. done_steps merge c.args.sorted.now content stores _ (ap (λ n. nat_le n c.self.inside.passed) c.len.ensures.value
     ∙ entries_decide merge c.args.sorted.now (omega (arith, c.self.invariant.0.store)) (c.is_empty.ensures.0 c.if-not-is_empty.false)) c.self.invariant.0 is honest sound)
 
 pub returns-then-self-clause-steps : goal.returns-then-self-clause-steps

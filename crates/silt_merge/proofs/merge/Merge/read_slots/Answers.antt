@@ -29,10 +29,9 @@ returns-clause-merged g c =
     let image : List ℕ = (g.D.Disk.content c.args.disk.now).shown in
     let shape : store.shape ≡ merge.shape = ap (λ (s : HashState). s.shape) c.index-stores-self.is ∙ shapes merge.store store (omega (arith, below, count)) in
     let region : get_or (regions_of c.args.stores.now) merge.store 0 ≡ store.region = store_at c.args.stores.now merge.store store (omega (arith, below, count)) c.index-stores-self.is in
-    rw (← c.self.view_is) (λ sorted is.
-    merged_slots (g.D.Disk.content c.args.disk.now) c.args.stores.now sorted merge c.read_slots.new.self.parts
-    (λ honest same. subst (λ r. AreSlots sorted.shape r image merge.slot c.read_slots.new.self.parts) (sym region)
-    (subst (λ (s : Shape). AreSlots s store.region image merge.slot c.read_slots.new.self.parts) (shape ∙ sym same) (c.in_ok-read_slots.ensures.slots honest))) is)
+    rw (← c.self.view_is) (λ sorted is. merged_slots (g.D.Disk.content c.args.disk.now) c.args.stores.now sorted merge c.read_slots.new.self.parts (λ honest same. subst (λ r. AreSlots
+    sorted.shape r image merge.slot c.read_slots.new.self.parts) (sym region) (subst (λ (s : Shape). AreSlots s store.region image merge.slot c.read_slots.new.self.parts) (shape ∙ sym same)
+    (c.in_ok-read_slots.ensures.slots honest))) is)
 
 pub invariant_of-self-2 : goal.invariant_of-self-2
 invariant_of-self-2 g c =
