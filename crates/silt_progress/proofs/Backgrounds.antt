@@ -1,9 +1,9 @@
 -- Background work of both kinds, in any order.
-use Rattle.std.proofs.Common.{◌≡◌, ◌≤◌, ℕ, zero, suc, ◌+◌, ◌-◌, ◌*◌, true, false, IsTrue, List, [], ◌∷◌, length, Option, Some, None, IfSome, refl, ap, sym, ◌∙◌, subst, arith, suc-mul}
+use Rattle.std.proofs.lemmas.Bool.{and_parts}
+use Rattle.std.proofs.Common.{rules, ◌≡◌, ◌≤◌, ℕ, zero, suc, ◌+◌, ◌-◌, ◌*◌, true, false, IsTrue, List, [], ◌∷◌, length, Option, Some, None, IfSome, refl, ap, sym, ◌∙◌, subst, arith}
 use Rattle.std.proofs.Math.Nat.{add-mul, mul-le-mul_right}
 use Rattle.std.specs.Prelude.{unwrap_or}
 use Rattle.std.specs.List.{list_all}
-use Rattle.std.proofs.lemmas.Bool.{and_parts}
 use Rattle.std.proofs.lemmas.List.{length-take-le}
 use Rattle.silt_disk.specs.Layout.{Shape}
 use Rattle.silt_disk.specs.declared.disk.Disk.{Ghosts}
@@ -16,32 +16,26 @@ use Rattle.silt_event.specs.declared.reply.Reply.{Reply}
 use Rattle.silt_event.specs.declared.reply.Reply.TheVariants.{Progress}
 use Rattle.silt_engine.specs.Conversion.{is_work, progress_due}
 use Rattle.silt_store_set.specs.CoreState.{ConvertGoesOn, ConvertWork, CoreState, Does, MergeWork, Runs, written_of}
-use Rattle.silt_progress.specs.Steps.{HasStepLeft, IsSized, TakesSome, conversions_left, convert_steps, is_background, is_step, logs_left, most_per_store, next_merge, steps_per_log, stores_left}
+use Rattle.silt_progress.specs.Steps.{HasStepLeft, IsSized, TakesSome, convert_steps, is_background, is_step, logs_left, most_per_store, next_merge, stores_left}
 use Rattle.silt_progress.specs.Laws.{BackgroundLaw}
 use Rattle.silt_progress.proofs.Conversions.{due_first, finished, moved, step_is, works}
-use Rattle.silt_progress.proofs.Merges.{Moves, few_taken, merge_end, merge_length, moves}
+use Rattle.silt_progress.proofs.Merges.{Moves, few_taken, first_work, merge_end, merge_length, moves}
 use Rattle.silt_progress.proofs.Sizes.{kept_merge}
 
 -- a merge of some hash stores takes at most so many steps
 per_store : (stores slots room : ℕ) → 1 ≤ stores → 2 * (stores * slots) + room + 1 ≤ stores * (2 * slots + room + 1)
 per_store zero slots room some = absurd (omega (arith, some))
-per_store (suc zero) slots room some =
-    let one : suc zero * slots ≡ slots = omega arith in
-    let whole : suc zero * (2 * slots + room + 1) ≡ 2 * slots + room + 1 = omega arith in
-    omega (arith, one, whole)
-per_store (suc (suc n)) slots room some =
-    omega (arith, per_store (suc n) slots room (omega arith), suc-mul (suc n) slots, suc-mul (suc n) (2 * slots + room + 1))
+per_store (suc zero) slots room some = search arith
+per_store (suc (suc n)) slots room some = search (arith, per_store (suc n) slots room)
 
 -- a conversion that goes on has as many logs to convert as before
 logs_same : (frozen hashed regions slots hashes : ℕ) (body : Body) (before after : Option ConvertWork) → ConvertGoesOn hashes body before after
     → Moved ≡ progress_due frozen hashed regions slots (written_of before) → logs_left frozen after ≡ logs_left frozen before
-logs_same frozen hashed regions slots hashes body (Some before) (Some after) on due = refl
-logs_same frozen hashed regions slots hashes body None (Some after) on due = let some = due_first frozen hashed regions slots due in omega (arith, some)
-logs_same frozen hashed regions slots hashes body before None on due = absurd on
+logs_same frozen hashed regions slots hashes body before after on due = search (arith, due_first)
 
 -- a merge that stays has taken as many steps, with any number of hash stores
 steps_same : (o : Option MergeWork) (hashes more : ℕ)
-    → (unwrap_or o (record { stores = more; steps = 0; written = 0; damaged = None })).steps ≡ (unwrap_or o (record { stores = hashes; steps = 0; written = 0; damaged = None })).steps
+    → (unwrap_or o (first_work more)).steps ≡ (unwrap_or o (first_work hashes)).steps
 steps_same None hashes more = refl
 steps_same (Some work) hashes more = refl
 
@@ -52,7 +46,7 @@ all_steps core = convert_steps core + stores_left core * most_per_store core
 -- a merge in progress took at most so many
 few_steps : {D : Type 0} (core : CoreState D) → IsSized core → HasStepLeft core → (next_merge core).steps ≤ all_steps core
 few_steps core sized left =
-    let first : MergeWork = record { stores = length core.body.hashed; steps = 0; written = 0; damaged = None } in
+    let first : MergeWork = first_work (length core.body.hashed) in
     let go : (o : Option MergeWork) → core.merging ≡ o → IfSome o (TakesSome (length core.body.hashed)) → (next_merge core).steps ≤ all_steps core = elim [
       | None ↦ λ is takes. omega (arith, ap (λ (p : Option MergeWork). (unwrap_or p first).steps) is)
       | Some work ↦ λ is takes.
@@ -77,10 +71,7 @@ module _ {D F : Type 0} (facts : Ghosts D F) where
 
   -- a step of conversion leaves the steps of the merge in progress
   merge_same : (old new : CoreState D) (progress : ProgressOf) → Does facts old new Convert (Progress progress) → (next_merge new).steps ≡ (next_merge old).steps
-  merge_same old new progress does =
-      ap (λ (o : Option MergeWork). (unwrap_or o (record { stores = length new.body.hashed; steps = 0; written = 0; damaged = None })).steps)
-      (does.keeps_merging (works facts old new Convert progress does does.cause.0) refl)
-      ∙ steps_same old.merging (length old.body.hashed) (length new.body.hashed)
+  merge_same old new progress does = search (arith, works, steps_same, does.keeps_merging)
 
   convert_falls : (old new : CoreState D) (progress : ProgressOf) → Does facts old new Convert (Progress progress) → is_work progress ≡ true → IsSized old → Falls 1 old new
   convert_falls old new Idle does work sized = absurd (let no : false ≡ true = work in cc)
@@ -88,34 +79,23 @@ module _ {D F : Type 0} (facts : Ghosts D F) where
   convert_falls old new Moved does work sized =
       let on = moved facts old new does sized in
       let body : new.body ≡ old.body = does.cause.2.0 in
-      let logs : logs_left (length old.body.frozen) new.converting ≡ logs_left (length old.body.frozen) old.converting =
-      logs_same (length old.body.frozen) (length old.body.hashed) old.shape.hashes (4 * old.shape.buckets) old.shape.hashes old.body old.converting new.converting does.cause.2.1 does.cause.1 in
-      let stores : stores_left new ≡ stores_left old =
-      ap (λ (b : Body). logs_left (length b.frozen) new.converting + length b.hashed) body ∙ ap (λ (n : ℕ). n + length old.body.hashed) logs in
-      let all : stores_left new * most_per_store new ≡ stores_left old * most_per_store old =
-      ap (λ (n : ℕ). n * most_per_store new) stores ∙ ap (λ (n : ℕ). stores_left old * n) (most_same old new does.shape) in
+      let logs : logs_left (length old.body.frozen) new.converting ≡ logs_left (length old.body.frozen) old.converting = search (arith, logs_same) in
+      let stores : stores_left new ≡ stores_left old = search arith in
+      let all : stores_left new * most_per_store new ≡ stores_left old * most_per_store old = search (arith, most_same) in
       record { falls = omega (arith, on.1, all, merge_same old new Moved does); sized = on.2 }
   convert_falls old new Finished does work sized =
       let on = finished facts old new does sized in
       let is = does.cause.2 in
-      let before : stores_left old ≡ (length old.body.frozen - 1) + 1 + length old.body.hashed =
-      ap (λ (o : Option ConvertWork). logs_left (length old.body.frozen) o + length old.body.hashed) is.was in
-      let after : stores_left new ≡ length new.body.frozen + length new.body.hashed = ap (λ (o : Option ConvertWork). logs_left (length new.body.frozen) o + length new.body.hashed) is.none in
+      let before : stores_left old ≡ (length old.body.frozen - 1) + 1 + length old.body.hashed = search arith in
+      let after : stores_left new ≡ length new.body.frozen + length new.body.hashed = search arith in
       let stores : stores_left new ≡ stores_left old = omega (arith, before, after, on.1, on.3) in
-      let all : stores_left new * most_per_store new ≡ stores_left old * most_per_store old =
-      ap (λ (n : ℕ). n * most_per_store new) stores ∙ ap (λ (n : ℕ). stores_left old * n) (most_same old new does.shape) in
+      let all : stores_left new * most_per_store new ≡ stores_left old * most_per_store old = search (arith, most_same) in
       record { falls = omega (arith, on.2, all, merge_same old new Finished does); sized = on.4 }
 
   -- a step of merging leaves the conversions
   converts_same : (old new : CoreState D) (progress : ProgressOf) → Does facts old new Merge (Progress progress) → new.body.frozen ≡ old.body.frozen
       → (convert_steps new ≡ convert_steps old) × (logs_left (length new.body.frozen) new.converting ≡ logs_left (length old.body.frozen) old.converting)
-  converts_same old new progress does frozen =
-      let same : new.converting ≡ old.converting = does.keeps_converting (works facts old new Merge progress does does.cause.0) refl in (
-        ap (λ (ids : List ℕ). conversions_left (length ids) (steps_per_log new) new.converting) frozen
-            ∙ ap (λ (o : Option ConvertWork). conversions_left (length old.body.frozen) (steps_per_log new) o) same
-            ∙ ap (λ (s : Shape). conversions_left (length old.body.frozen) (4 * s.buckets + 1) old.converting) does.shape,
-        ap (λ (ids : List ℕ). logs_left (length ids) new.converting) frozen ∙ ap (logs_left (length old.body.frozen)) same,
-      )
+  converts_same old new progress does frozen = search (arith, works, does.keeps_converting)
 
   merge_falls : (old new : CoreState D) (progress : ProgressOf) → Does facts old new Merge (Progress progress) → is_work progress ≡ true
       → IsTrue (facts.content old.disk).honest → IsSized old → Falls 1 old new
@@ -125,22 +105,17 @@ module _ {D F : Type 0} (facts : Ghosts D F) where
       let on : Moves facts old new = moves facts old new does in
       let same = converts_same old new Moved does (ap (λ (b : Body). b.frozen) on.body) in
       let stores : stores_left new ≡ stores_left old = omega (arith, same.1, ap (λ (b : Body). length b.hashed) on.body) in
-      let all : stores_left new * most_per_store new ≡ stores_left old * most_per_store old =
-      ap (λ (n : ℕ). n * most_per_store new) stores ∙ ap (λ (n : ℕ). stores_left old * n) (most_same old new does.shape) in
-      record {
-        falls = omega (arith, same.0, all, on.steps);
-        sized = kept_merge facts old new (Progress Moved) does (works facts old new Merge Moved does does.cause.0) honest sized;
-      }
+      let all : stores_left new * most_per_store new ≡ stores_left old * most_per_store old = search (arith, most_same) in
+      record { falls = omega (arith, same.0, all, on.steps); sized = search (arith, kept_merge, works) }
   merge_falls old new Finished does work honest sized =
       let is = does.cause.2 in
-      let first : MergeWork = record { stores = length old.body.hashed; steps = 0; written = 0; damaged = None } in
+      let first : MergeWork = first_work (length old.body.hashed) in
       let own : next_merge old ≡ is.work = ap (λ (o : Option MergeWork). unwrap_or o first) is.was in
       let taken : (next_merge old).stores ≡ is.work.stores = ap (λ (w : MergeWork). w.stores) own in
-      let takes : TakesSome (length old.body.hashed) is.work = subst (λ (o : Option MergeWork). IfSome o (TakesSome (length old.body.hashed))) is.was sized.merging in
+      let takes : TakesSome (length old.body.hashed) is.work = search arith in
       let same = converts_same old new Finished does (ap (λ (b : Body). b.frozen) is.body) in
-      let fewer : length new.body.hashed ≡ length old.body.hashed - is.work.stores =
-      ap (λ (b : Body). length b.hashed) is.body ∙ length-take-le (length old.body.hashed - is.work.stores) old.body.hashed (omega arith) in
-      let begins : (next_merge new).steps ≡ 0 = ap (λ (o : Option MergeWork). (unwrap_or o (record { stores = length new.body.hashed; steps = 0; written = 0; damaged = None })).steps) is.none in
+      let fewer : length new.body.hashed ≡ length old.body.hashed - is.work.stores = search (arith, length-take-le) in
+      let begins : (next_merge new).steps ≡ 0 = ap (λ (o : Option MergeWork). (unwrap_or o (first_work (length new.body.hashed))).steps) is.none in
       let stores : stores_left old ≡ stores_left new + (next_merge old).stores = omega (arith, same.1, fewer, taken, takes.1) in
       let all : stores_left old * most_per_store old ≡ stores_left new * most_per_store new + (next_merge old).stores * most_per_store old =
       ap (λ (n : ℕ). n * most_per_store old) stores ∙ add-mul (stores_left new) (next_merge old).stores (most_per_store old)
@@ -150,15 +125,14 @@ module _ {D F : Type 0} (facts : Ghosts D F) where
       let most = per_store (next_merge old).stores (4 * old.shape.buckets) old.shape.sorted_capacity (omega (arith, taken, takes.0)) in
       record {
         falls = omega (arith, same.0, all, begins, last, long, most, sized.entries);
-        sized = kept_merge facts old new (Progress Finished) does (works facts old new Merge Finished does does.cause.0) honest sized;
+        sized = search (arith, kept_merge, works);
       }
 
   -- a step of either kind
   either_falls : (old new : CoreState D) (event : Event) (progress : ProgressOf) → Does facts old new event (Progress progress) → is_background event ≡ true → is_work progress ≡ true
       → IsTrue (facts.content old.disk).honest → IsSized old → Falls 1 old new
   either_falls old new Convert progress does is work honest sized = convert_falls old new progress does work sized
-  either_falls old new Merge progress does is work honest sized = merge_falls old new progress does work honest sized
-  either_falls old new event progress does is work honest sized = absurd (let no : false ≡ true = is in cc)
+  either_falls old new event progress does is work honest sized = search (rules, arith, merge_falls)
 
   run_falls : (old new : CoreState D) (events : List Event) (replies : List (Reply F)) → Runs facts old events replies new → IsTrue (list_all is_background events) → IsTrue (list_all is_step replies)
       → IsTrue (facts.content old.disk).honest → IsSized old → Falls (length events) old new
@@ -175,8 +149,7 @@ module _ {D F : Type 0} (facts : Ghosts D F) where
       let one = either_falls old next event step.0 does kinds.0 step.2 honest sized in
       let rest = run_falls next new events replies runs.2 kinds.1 parts.1 (subst IsTrue (sym runs.1.disk.honest) honest) one.sized in
       record { falls = omega (arith, one.falls, rest.falls); sized = rest.sized }
-  run_falls old new [] (reply ∷ replies) runs all done honest sized = absurd runs
-  run_falls old new (event ∷ events) [] runs all done honest sized = absurd runs
+  run_falls old new events replies runs all done honest sized = absurd runs
 
   pub background : BackgroundLaw facts
   background old new events replies runs all done honest sized left =

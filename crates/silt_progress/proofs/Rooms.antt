@@ -1,17 +1,16 @@
 -- Room for rows.
-use Rattle.std.proofs.Common.{◌≡◌, ◌≢◌, ◌≤◌, ℕ, ◌*◌, ◌==◌, Bool, true, false, not, ◌&&◌, ◌||◌, if◌then◌else◌, List, length, Option, Some, None, inl, inr, refl, ap, sym, ◌∙◌, subst, arith}
-use Rattle.std.specs.Option.{option_map}
 use Rattle.std.proofs.lemmas.Bool.{eqb-true}
+use Rattle.std.proofs.Common.{◌≡◌, ◌≢◌, ℕ, Bool, true, false, not, ◌&&◌, ◌||◌, List, length, Option, refl, ap, sym, ◌∙◌, arith}
+use Rattle.std.specs.Option.{option_map}
 use Rattle.silt_disk.specs.declared.disk.Disk.{Ghosts}
 use Rattle.silt_event.specs.declared.event.Event.{Event}
-use Rattle.silt_event.specs.declared.event.Event.TheVariants.{Put, Delete, Swap, Flush, Get, Convert, Merge}
 use Rattle.silt_event.specs.declared.progress.Progress.{Progress as ProgressOf}
 use Rattle.silt_event.specs.declared.progress.Progress.TheVariants.{Idle, Waiting, Moved, Finished}
 use Rattle.silt_event.specs.declared.refusal.Refusal.TheVariants.{NoRoom}
 use Rattle.silt_event.specs.declared.reply.Reply.TheVariants.{Refused}
 use Rattle.silt_engine.specs.Conversion.{is_work}
 use Rattle.silt_engine.specs.Merge.{merge_progress}
-use Rattle.silt_store_set.specs.CoreState.{AreAllInUse, CoreState, Does, SettingCause, convert_due, has_decided, merge_due, written_of}
+use Rattle.silt_store_set.specs.CoreState.{AreAllInUse, CoreState, Does, SettingCause, convert_due, has_decided, merge_due}
 use Rattle.silt_progress.specs.Laws.{NoRoomLaw, RestLaw, RoomLaw, WaitLaw}
 use Rattle.silt_progress.proofs.Conversions.{due_waiting}
 use Rattle.silt_progress.proofs.Merges.{no_work}
@@ -27,48 +26,29 @@ module _ {D F : Type 0} (facts : Ghosts D F) where
 
   -- a put or a delete that has no room
   full_setting : (old new : CoreState D) (key : List ℕ) (value : Option (List ℕ)) → SettingCause facts old new key value (Refused NoRoom) → IsFull old
-  full_setting old new key (Some value) cause = record { working = cause.0.may_count.working; used = cause.1.1; due = cause.1.2 }
-  full_setting old new key None cause = record { working = cause.0.working; used = cause.1.1; due = cause.1.2 }
+  full_setting old new key value cause = search arith
 
   -- any call that has none
   full : (old new : CoreState D) (event : Event) → Does facts old new event (Refused NoRoom) → IsFull old
-  full old new (Put key value) does = full_setting old new key.0 (Some value) does.cause
-  full old new (Delete key) does = full_setting old new key.0 None does.cause
-  full old new (Swap key expected value) does = full_setting old new key.0 value does.cause.1
-  full old new Flush does = absurd does.cause
-  full old new event does = absurd does.cause
+  full old new event does = search (arith, full_setting)
 
   -- there is room with a free log region, or with nothing to convert
   pub room : RoomLaw facts
-  room old new event reply does (inl free) none = free (full old new event (subst (Does facts old new event) none does)).used
-  room old new event reply does (inr idle) none = (full old new event (subst (Does facts old new event) none does)).due idle
+  room old new event reply does h5 none = search arith
 
 -- ---- what there is to do then
 
 -- with a hash store there is a step of merging to do
 some_merge : (hashes : ℕ) (decided : Option Bool) → hashes ≢ 0 → is_work (merge_progress hashes decided) ≡ true
-some_merge hashes (Some true) some = refl
-some_merge hashes (Some false) some = refl
-some_merge hashes None some =
-    let go : (b : Bool) → (hashes == 0) ≡ b → is_work (if b then Idle else Moved) ≡ true = elim [
-      | true ↦ λ is. absurd (some (eqb-true hashes 0 is))
-      | false ↦ λ is. refl
-    ] in
-    go (hashes == 0) refl
+some_merge hashes decided some = search (arith, eqb-true)
 
 -- a conversion waits only if all hash regions are in use
 pub wait : {D : Type 0} → WaitLaw D
-wait core sized waits =
-    let due = due_waiting (length core.body.frozen) (length core.body.hashed) core.shape.hashes (4 * core.shape.buckets) (written_of core.converting) (sym waits) in
-    let regions : 1 ≤ core.shape.hashes = sized.limits.hashes_least in
-    some_merge (length core.body.hashed) (option_map (has_decided core) core.merging) (λ is. absurd (omega (arith, is, due.1, regions)))
+wait core sized waits = search (arith, due_waiting, some_merge)
 
 -- what has something to do, and no step, waits
 waits_then : (progress : ProgressOf) → progress ≢ Idle → is_work progress ≡ false → progress ≡ Waiting
-waits_then Idle some none = absurd (some refl)
-waits_then Waiting some none = refl
-waits_then Moved some none = absurd (let no : true ≡ false = none in cc)
-waits_then Finished some none = absurd (let no : true ≡ false = none in cc)
+waits_then progress some none = grind arith
 
 pub rest : {D : Type 0} → RestLaw D
 rest core sized converts merges =
@@ -83,9 +63,7 @@ rest core sized converts merges =
 
 -- a step of either kind
 either_step : (failed converts merges : Bool) → failed ≡ false → (converts ≡ false → merges ≡ true) → (not failed && converts || not failed && merges) ≡ true
-either_step false true merges working other = refl
-either_step false false merges working other = other refl
-either_step true converts merges working other = absurd (let no : true ≡ false = working in cc)
+either_step failed converts merges working other = grind arith
 
 pub no_room : {D F : Type 0} (facts : Ghosts D F) → NoRoomLaw facts
 no_room facts old new event does sized =

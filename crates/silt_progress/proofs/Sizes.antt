@@ -1,7 +1,9 @@
 -- Which states are sized.
-use Rattle.std.proofs.Common.{◌≡◌, ◌≤◌, ◌<◌, ℕ, zero, suc, ◌*◌, ◌%◌, Bool, true, false, IsTrue, List, [], ◌∷◌, length, Ok, Option, Some, None, IfSome, inl, inr, refl, ap, sym, ◌∙◌, subst, arith}
+use Rattle.std.proofs.lemmas.Bool.{cases_Bool}
+use Rattle.std.proofs.Common.{rules, ◌≡◌, ◌≤◌, ◌<◌, ℕ, zero, suc, ◌*◌, Bool, true, false, IsTrue, List, [], ◌∷◌, length, Ok, Option, Some, None, IfSome, inl, inr, refl, ap, sym, ◌∙◌, subst}
+use Rattle.std.proofs.Common.{arith}
 use Rattle.std.specs.Option.{option_map}
-use Rattle.silt_event.specs.Commands.{Command, delete, put}
+use Rattle.silt_event.specs.Commands.{Command}
 use Rattle.silt_engine.specs.Conversion.{is_work}
 use Rattle.silt_engine.specs.Merge.{merge_progress}
 use Rattle.silt_disk.specs.Layout.{InLimits, Shape}
@@ -14,7 +16,7 @@ use Rattle.silt_event.specs.declared.event.Event.{Event}
 use Rattle.silt_event.specs.declared.event.Event.TheVariants.{Put, Delete, Swap, Flush, Get, Convert, Merge}
 use Rattle.silt_event.specs.declared.progress.Progress.TheVariants.{Idle, Waiting, Moved, Finished}
 use Rattle.silt_event.specs.declared.reply.Reply.{Reply}
-use Rattle.silt_event.specs.declared.reply.Reply.TheVariants.{Accepted, Acknowledged, Found, Absent, Differs, NotServed, Progress, Refused, Unsettled}
+use Rattle.silt_event.specs.declared.reply.Reply.TheVariants.{Accepted, Acknowledged, Found, Absent, Differs, Progress, Refused}
 use Rattle.silt_engine.specs.Laws.{IsGoodWith}
 use Rattle.silt_store_set.specs.CoreState.{CoreState, Does, MergeGoesOn, MergeWork, Runs, SettingCause, Takes, has_decided, is_convert, is_merge, is_refused}
 use Rattle.silt_store_set.specs.Facts.{slots_written}
@@ -28,15 +30,12 @@ numbers_of : (shape : Shape) (body : Body) (image : List ℕ) → image_stores i
 unfolding stores_named
 numbers_of shape body image is =
     let whole = whole_law image (stores_named shape body image) is in
-    let parts = sound_parts shape (body.generation % 2) body whole.sound in
-    (whole.limits, parts.frozen_count, parts.sorted_count)
+    search (arith, sound_parts, body.generation)
 
 -- so has a store whose numbers are those of its image
 pub sized_by : {D : Type 0} (core : CoreState D) → IsGoodWith core.shape core.body core.charge core.full → slots_written core.converting ≤ 4 * core.shape.buckets
     → IfSome core.merging (TakesSome (length core.body.hashed)) → IsSized core
-sized_by core good written merging =
-    let numbers = numbers_of core.shape core.body core.full good.stores in
-    record { limits = numbers.0; frozen = numbers.1; entries = numbers.2; written = written; merging = merging }
+sized_by core good written merging = search (arith, numbers_of)
 
 -- no merge takes nothing
 no_merge : (o : Option MergeWork) (hashes : ℕ) → o ≡ None → IfSome o (TakesSome hashes)
@@ -54,18 +53,13 @@ some_hashes (suc hashes) work = omega arith
 takes_on : (body : Body) (before after : Option MergeWork) (decided : MergeWork → Bool) → MergeGoesOn body before after
     → true ≡ is_work (merge_progress (length body.hashed) (option_map decided before))
     → IfSome before (TakesSome (length body.hashed)) → IfSome after (TakesSome (length body.hashed))
-takes_on body (Some before) (Some after) decided on work takes = (omega (arith, on.0, takes.0), omega (arith, on.0, takes.1))
-takes_on body None (Some after) decided on work takes = (omega (arith, on.0, some_hashes (length body.hashed) work), omega (arith, on.0))
-takes_on body before None decided on work takes = absurd on
+takes_on body before after decided on work takes = search (arith, some_hashes)
 
 module _ {D F : Type 0} (facts : Ghosts D F) where
   -- a refusal that leaves a store not failed changes nothing
   refused_same : (old new : CoreState D) (event : Event) (reply : Reply F) → Does facts old new event reply → is_refused reply ≡ true → new.failed ≡ false → new ≡ old
   refused_same old new event reply does is working =
-      let go : (b : Bool) → old.failed ≡ b → new ≡ old = elim [
-        | true ↦ λ failed. (does.failed failed).0
-        | false ↦ λ before. does.stays is (working ∙ sym before)
-      ] in
+      let go : (b : Bool) → old.failed ≡ b → new ≡ old = search (arith, does.failed, does.stays) in
       go old.failed refl
 
   -- a step of conversion
@@ -101,68 +95,48 @@ module _ {D F : Type 0} (facts : Ghosts D F) where
 
   -- a row leaves the hash stores
   takes_hashes : (old new : CoreState D) (key : List ℕ) (command : Command) → Takes facts old new key command → length new.body.hashed ≡ length old.body.hashed
-  takes_hashes old new key command (inl stays) = ap (λ (b : Body). length b.hashed) stays.0.0
-  takes_hashes old new key command (inr turns) = ap (λ (b : Body). length b.hashed) turns.0.0.is
+  takes_hashes old new key command h4 = search arith
 
   set_hashes : (old new : CoreState D) (key : List ℕ) (value : Option (List ℕ)) (n : ℕ) → SettingCause facts old new key value (Accepted n) → length new.body.hashed ≡ length old.body.hashed
-  set_hashes old new key (Some value) n cause = takes_hashes old new key (put key value) cause.1.0
-  set_hashes old new key None n cause = takes_hashes old new key (delete key) cause.1.0
+  set_hashes old new key value n cause = search (arith, takes_hashes)
 
   -- so does any call that is no step of background work
   same_hashes : (old new : CoreState D) (event : Event) (reply : Reply F) → Does facts old new event reply → is_convert event ≡ false → is_merge event ≡ false → new.failed ≡ false
       → length new.body.hashed ≡ length old.body.hashed
   same_hashes old new event (Refused refusal) does other another working = ap (λ (c : CoreState D). length c.body.hashed) (refused_same old new event (Refused refusal) does refl working)
   same_hashes old new (Put key value) (Accepted n) does other another working = set_hashes old new key.0 (Some value) n does.cause
-  same_hashes old new (Put key value) reply does other another working = absurd does.cause
   same_hashes old new (Delete key) (Accepted n) does other another working = set_hashes old new key.0 None n does.cause
-  same_hashes old new (Delete key) reply does other another working = absurd does.cause
-  same_hashes old new (Swap key expected value) (Accepted n) does other another working = set_hashes old new key.0 value n does.cause.1
-  same_hashes old new (Swap key expected value) Differs does other another working = ap (λ (c : CoreState D). length c.body.hashed) does.cause.1
+  same_hashes old new (Swap key expected value) (Accepted n) does other another working = search (arith, set_hashes)
+  same_hashes old new (Swap key expected value) Differs does other another working = search arith
   same_hashes old new (Swap key expected (Some value)) reply does other another working = absurd does.cause.1
   same_hashes old new (Swap key expected None) reply does other another working = absurd does.cause.1
   same_hashes old new Flush (Acknowledged n) does other another working = ap (λ (b : Body). length b.hashed) (does.keeps_body working refl refl)
-  same_hashes old new Flush reply does other another working = absurd does.cause
-  same_hashes old new (Get key) (Found value) does other another working = ap (λ (c : CoreState D). length c.body.hashed) does.cause.1
-  same_hashes old new (Get key) Absent does other another working = ap (λ (c : CoreState D). length c.body.hashed) does.cause.1
-  same_hashes old new (Get key) reply does other another working = absurd does.cause
+  same_hashes old new (Get key) (Found value) does other another working = search arith
+  same_hashes old new (Get key) Absent does other another working = search arith
   same_hashes old new Convert reply does other another working = absurd (let no : true ≡ false = other in cc)
   same_hashes old new Merge reply does other another working = absurd (let no : true ≡ false = another in cc)
+  same_hashes old new event reply does other another working = absurd does.cause
 
   kept_other : (old new : CoreState D) (event : Event) (reply : Reply F) → Does facts old new event reply → is_convert event ≡ false → is_merge event ≡ false → new.failed ≡ false
       → IsTrue (facts.content old.disk).honest → IsSized old → IsSized new
   kept_other old new event reply does other another working honest sized =
       let same = same_hashes old new event reply does other another working in
       let merging : new.merging ≡ old.merging = does.keeps_merging working another in
-      sized_by new (does.numbers working honest) (written_still old new event reply does other working sized)
-      (takes_more new.merging (length old.body.hashed) (length new.body.hashed) (omega (arith, same))
-      (subst (λ (o : Option MergeWork). IfSome o (TakesSome (length old.body.hashed))) (sym merging) sized.merging))
+      sized_by new (does.numbers working honest) (written_still old new event reply does other working sized) (search (arith, takes_more))
 
   kept_one : (old new : CoreState D) (event : Event) (reply : Reply F) → Does facts old new event reply → new.failed ≡ false → IsTrue (facts.content old.disk).honest → IsSized old → IsSized new
   kept_one old new Convert reply does working honest sized = kept_convert old new reply does working sized
-  kept_one old new Merge reply does working honest sized = kept_merge old new reply does working honest sized
-  kept_one old new (Put key value) reply does working honest sized = kept_other old new (Put key value) reply does refl refl working honest sized
-  kept_one old new (Delete key) reply does working honest sized = kept_other old new (Delete key) reply does refl refl working honest sized
-  kept_one old new (Swap key expected value) reply does working honest sized = kept_other old new (Swap key expected value) reply does refl refl working honest sized
-  kept_one old new Flush reply does working honest sized = kept_other old new Flush reply does refl refl working honest sized
-  kept_one old new (Get key) reply does working honest sized = kept_other old new (Get key) reply does refl refl working honest sized
+  kept_one old new event reply does working honest sized = search (rules, arith, kept_merge, kept_other)
 
   -- a failed store stays failed
   stays_failed : (old new : CoreState D) (events : List Event) (replies : List (Reply F)) → Runs facts old events replies new → old.failed ≡ true → new.failed ≡ true
-  stays_failed old new [] [] runs failed = ap (λ (c : CoreState D). c.failed) runs ∙ failed
-  stays_failed old new (event ∷ events) (reply ∷ replies) runs failed =
-      stays_failed runs.0 new events replies runs.2 (ap (λ (c : CoreState D). c.failed) (runs.1.failed failed).0 ∙ failed)
-  stays_failed old new [] (reply ∷ replies) runs failed = absurd runs
-  stays_failed old new (event ∷ events) [] runs failed = absurd runs
+  stays_failed old new (event ∷ events) (reply ∷ replies) runs failed = search (arith, stays_failed runs.0 new events replies runs.2, runs.1.failed)
+  stays_failed old new events replies runs failed = search (rules, arith)
 
   pub kept : KeptLaw facts
   kept old new [] [] runs working honest sized = subst IsSized (sym runs) sized
-  kept old new (event ∷ events) (reply ∷ replies) runs working honest sized =
-      let next = runs.0 in
-      let go : (b : Bool) → next.failed ≡ b → next.failed ≡ false = elim [
-        | true ↦ λ failed. absurd (let no : true ≡ false = sym (stays_failed next new events replies runs.2 failed) ∙ working in cc)
-        | false ↦ λ is. is
-      ] in
-      let goes = go next.failed refl in
-      kept next new events replies runs.2 working (subst IsTrue (sym runs.1.disk.honest) honest) (kept_one old next event reply runs.1 goes honest sized)
-  kept old new [] (reply ∷ replies) runs working honest sized = absurd runs
-  kept old new (event ∷ events) [] runs working honest sized = absurd runs
+  kept old new (event ∷ events) (reply ∷ replies) runs working honest sized = elim (cases_Bool runs.0.failed) [
+    | inl failed ↦ absurd (let no : true ≡ false = sym (stays_failed runs.0 new events replies runs.2 failed) ∙ working in cc)
+    | inr goes ↦ kept runs.0 new events replies runs.2 working (subst IsTrue (sym runs.1.disk.honest) honest) (kept_one old runs.0 event reply runs.1 goes honest sized)
+  ]
+  kept old new events replies runs working honest sized = search rules
