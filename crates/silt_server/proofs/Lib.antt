@@ -1,2 +1,3 @@
+mod Sends
 mod Serving
 mod Sets

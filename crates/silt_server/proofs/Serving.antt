@@ -1,6 +1,6 @@
 -- What a server writes.
-use Rattle.std.proofs.Common.{◌≡◌, ◌⊎◌, ℕ, ◌%◌, ◌^◌, Option, List, [], ◌∷◌, ◌++◌, ap, arith, codes, inl, inr, length, refl, subst, sym, take, drop, take-append-drop}
-use Rattle.std.specs.Prelude.{IfOk, OnOk, Result, Ok, Err}
+use Rattle.std.proofs.Common.{◌≡◌, ◌⊎◌, ℕ, ◌%◌, ◌^◌, Option, List, [], ◌∷◌, ◌++◌, ap, arith, codes, inl, inr, length, refl, subst, sym, take, drop, take-append-drop, IfOk, OnOk, Result, Ok}
+use Rattle.std.proofs.Common.{Err}
 use Rattle.silt_wire.proofs.Streams.{Appends-append, Appends-keeps, Appends-none}
 use Rattle.silt_disk.specs.declared.disk.Disk.{Ghosts}
 use Rattle.silt_store_set.specs.CoreState.{CoreState}
@@ -22,7 +22,7 @@ no_memory_is F = ap (λ (digits : List ℕ). (codes "refused " ++ (digits ++ cod
 pub reports_no_memory : {F : Type 0} (refusal : Refusal F) (before after : Option (List ℕ)) → refusal ≡ NoMemory
     → Appends before after (codes "refused 6 NoMemory\n") → Appends before after (refused_text refusal)
 reports_no_memory {F} refusal before after is printed =
-    subst (λ (r : Refusal F). Appends before after (refused_text r)) (sym is) (subst (λ (text : List ℕ). Appends before after text) (no_memory_is F) printed)
+    rw is (subst (λ (text : List ℕ). Appends before after text) (no_memory_is F) printed)
 
 -- the head is written by two lines
 pub head_written : {X E : Type 0} (result : Result X E) (before mid after : Option (List ℕ)) (port : ℕ) → Appends before mid (codes "opened\n")
@@ -43,11 +43,6 @@ pub served_written : {T : Type 0} (has_port : ℕ → Type 0) (counts : T → �
 served_written has_port counts trace before mid after head printed =
     (head.0, head.1, printed.0, printed.1, printed.2, Appends-append before mid after (head_text head.0) (calls_text (printed.0 % 2 ^ 64)) head.2 printed.3)
 
--- the same calls are counted by an equal trace
-pub calls_of_same : {T : Type 0} (counts : T → ℕ → ℕ → Type 0) (old new : T) (before after : Option (List ℕ)) → new ≡ old → PrintsCalls counts old before after
-    → PrintsCalls counts new before after
-calls_of_same {T} counts old new before after same printed = (printed.0, printed.1, subst (λ (t : T). counts t printed.0 printed.1) (sym same) printed.2, printed.3)
-
 -- ---- the calls of a server
 
 module _ {D F T E : Type 0} (facts : Ghosts D F) (agrees : T → SeenStore → Type 0) (counts : T → ℕ → ℕ → Type 0) (has_port : ℕ → Type 0) (first : CoreState D) (disk : D)
@@ -62,13 +57,8 @@ module _ {D F T E : Type 0} (facts : Ghosts D F) (agrees : T → SeenStore → T
   calls_served one traced is =
       let printed = traced.printed is in
       let calls = traced.past.calls in
-      let number = one traced.state.trace printed.2 printed.3 (length calls) (count_accepted calls) printed.4 traced.past.counted in (
-        traced.last,
-        calls,
-        traced.is,
-        traced.past.leads,
-        (printed.0, printed.1, subst (λ (n : ℕ). Appends before after (head_text printed.0 ++ calls_text n)) number printed.5),
-      )
+      let number = one traced.state.trace printed.2 printed.3 (length calls) (count_accepted calls) printed.4 traced.past.counted in
+      (traced.last, calls, traced.is, traced.past.leads, (printed.0, printed.1, rw number at printed.5))
 
 -- one write took a first part of a text, or nothing
 pub wrote_some : {E : Type 0} (result : Result ℕ E) (text : List ℕ) (before after : Option (List ℕ)) → WriteAppends before after result text

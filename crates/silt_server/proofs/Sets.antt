@@ -1,13 +1,12 @@
 -- The calls of all desks of a set, and what its server writes.
-use Rattle.std.proofs.Common.{◌≡◌, ◌⊎◌, inl, inr, ◌<◌, ◌≤◌, ◌+◌, ◌%◌, ◌^◌, ℕ, zero, suc, List, [], ◌∷◌, ◌++◌, Some, arith, get_or, length, map, refl}
-use Rattle.std.proofs.Common.{slice_get, subst, sym, take, ◌∙◌, ap}
-use Rattle.std.specs.List.{sum}
-use Rattle.std.specs.List.{AllZip}
+use Rattle.std.proofs.Common.{◌≡◌, ◌⊎◌, inl, inr, ◌<◌, ◌≤◌, ◌+◌, ◌%◌, ◌^◌, ℕ, zero, suc, List, [], ◌∷◌, ◌++◌, Some, arith, get_or, length, map, refl, slice_get, subst, sym, take, ◌∙◌, ap, All}
+use Rattle.std.proofs.Common.{IsSomeAnd, Option, None}
+use Rattle.std.specs.List.{sum, AllZip}
 use Rattle.std.specs.Option.{option_map, unwrap_or}
 use Rattle.std.proofs.lemmas.List.{length-map, map-append, take_all, take_more}
 use Rattle.std.proofs.lemmas.List.Elements.{All-cons, All-nil}
+use Rattle.std.proofs.lemmas.Option.{slice_get-map}
 use Rattle.std.proofs.lemmas.List.Sums.{sum_by-append}
-use Rattle.std.specs.Prelude.{All, IsSomeAnd, Option, None}
 use Rattle.logbook.specs.Pages.{Book}
 use Rattle.silt_disk.specs.declared.disk.Disk.{Ghosts}
 use Rattle.silt_store_set.specs.CoreState.{CoreState}
@@ -16,8 +15,8 @@ use Rattle.silt_desk.specs.CallLogs.{CallsSeen}
 use Rattle.silt_desk.specs.Seeing.{SeenStore, seen}
 use Rattle.silt_desk.specs.Servings.{LeavesCalls}
 use Rattle.silt_wire.proofs.Streams.{Appends-append}
-use Rattle.silt_server.specs.Serving.{AreInPlace, AreNewLogs, CountsEach, EachFrom, IsLedFrom, IsNamedFor, LeavesEach, LeavesFrom, PrintsAllCalls, PrintsAllServed}
-use Rattle.silt_server.specs.Serving.{WritesHead, head_text, seen_at}
+use Rattle.silt_server.specs.Serving.{AreInPlace, AreNewLogs, CountsEach, EachFrom, IsLedFrom, IsNamedFor, LeavesEach, LeavesFrom, PrintsAllCalls, PrintsAllServed, WritesHead, head_text}
+use Rattle.silt_server.specs.Serving.{seen_at}
 use Rattle.silt_server.specs.Texts.{calls_text}
 
 module _ {T : Type 0} (counts : T → ℕ → ℕ → Type 0) where
@@ -26,21 +25,18 @@ module _ {T : Type 0} (counts : T → ℕ → ℕ → Type 0) where
       → CountsEach counts (traces ++ trace ∷ []) (calls ++ n ∷ [])
   counts_more [] [] trace n m all one = ((m, one), tt)
   counts_more (t ∷ traces) (c ∷ calls) trace n m all one = (all.0, counts_more traces calls trace n m all.1 one)
-  counts_more [] (c ∷ calls) trace n m all one = absurd all
-  counts_more (t ∷ traces) [] trace n m all one = absurd all
+  counts_more traces calls trace n m all one = absurd all
 
 module _ {T D : Type 0} (counts : T → ℕ → ℕ → Type 0) (trace_of : D → T) (desks : List D) where
   -- the desk of this number counts so many calls
   pub calls_next : (i : ℕ) (desk : D) (calls : List ℕ) (n m : ℕ) → i < length desks → desk ≡ get_or desks i desk
       → CountsEach counts (map trace_of (take i desks)) calls → counts (trace_of desk) n m → CountsEach counts (map trace_of (take (i + 1) desks)) (calls ++ n ∷ [])
   calls_next i desk calls n m within is all one =
-      let front : take (i + 1) desks ≡ take i desks ++ desk ∷ [] = take_more desks i desk within ∙ ap (λ (d : D). take i desks ++ d ∷ []) (sym is) in
-      subst (λ (l : List T). CountsEach counts l (calls ++ n ∷ [])) (sym (ap (map trace_of) front ∙ map-append trace_of (take i desks) (desk ∷ [])))
-      (counts_more counts (map trace_of (take i desks)) calls (trace_of desk) n m all one)
+      rw (take_more desks i desk within, ← is, map-append trace_of (take i desks) (desk ∷ [])) (counts_more counts (map trace_of (take i desks)) calls (trace_of desk) n m all one)
 
   -- the desks so far are all
   pub calls_all : (i : ℕ) (calls : List ℕ) → length desks ≤ i → CountsEach counts (map trace_of (take i desks)) calls → CountsEach counts (map trace_of desks) calls
-  calls_all i calls over all = subst (λ (l : List D). CountsEach counts (map trace_of l) calls) (take_all i desks over) all
+  calls_all i calls over all = rw (take_all i desks over) at all
 
 -- the sum with one number more
 pub sum_more : (calls : List ℕ) (n : ℕ) → sum (calls ++ n ∷ []) ≡ sum calls + n
@@ -59,29 +55,21 @@ all_served_written has_port counts traces before mid after head printed =
 -- a fact of each item at its place, and of one item more
 at_last : {X : Type 0} (P : ℕ → X → Type 0) (xs : List X) (x : X) → ((i : ℕ) (y : X) → slice_get xs i ≡ Some y → P i y) → P (length xs) x
     → (i : ℕ) (y : X) → slice_get (xs ++ x ∷ []) i ≡ Some y → P i y
-at_last P [] x old new zero y at = let same : x ≡ y = cc in subst (P 0) same new
-at_last P [] x old new (suc i) y at = absurd (cc)
-at_last P (z ∷ xs) x old new zero y at = old 0 y at
-at_last P (z ∷ xs) x old new (suc i) y at = at_last (λ n. P (suc n)) xs x (λ n. old (suc n)) new i y at
+at_last P [] x old new zero y here = let same : x ≡ y = cc in rw same at new
+at_last P [] x old new (suc i) y here = absurd (cc)
+at_last P (z ∷ xs) x old new zero y here = old 0 y here
+at_last P (z ∷ xs) x old new (suc i) y here = at_last (λ n. P (suc n)) xs x (λ n. old (suc n)) new i y here
 
 -- the same of what is made of each item
 pub at_last_of : {X Y : Type 0} (P : ℕ → Y → Type 0) (f : X → Y) (xs all : List X) (x : X) → all ≡ xs ++ x ∷ []
     → ((i : ℕ) (y : Y) → slice_get (map f xs) i ≡ Some y → P i y) → P (length xs) (f x) → (i : ℕ) (y : Y) → slice_get (map f all) i ≡ Some y → P i y
-at_last_of {X} {Y} P f xs all x is old new =
-    subst (λ (l : List Y). (i : ℕ) (y : Y) → slice_get l i ≡ Some y → P i y) (sym (ap (map f) is ∙ map-append f xs (x ∷ [])))
-    (at_last P (map f xs) (f x) old (subst (λ (n : ℕ). P n (f x)) (sym (length-map xs f)) new))
-
-get_made : {X Y : Type 0} (f : X → Y) (xs : List X) (i : ℕ) (x : X) → slice_get xs i ≡ Some x → slice_get (map f xs) i ≡ Some (f x)
-get_made f [] i x at = absurd (cc)
-get_made f (y ∷ xs) zero x at = ap (option_map f) at
-get_made f (y ∷ xs) (suc i) x at = get_made f xs i x at
+at_last_of P f xs all x is old new = rw (is, map-append f xs (x ∷ [])) (at_last P (map f xs) (f x) old (rw (length-map xs f) new))
 
 -- two lists that are related item by item, with one item more
 pub zip_more : {X Y : Type 0} (R : X → Y → Type 0) (xs : List X) (ys : List Y) (x : X) (y : Y) → AllZip R xs ys → R x y → AllZip R (xs ++ x ∷ []) (ys ++ y ∷ [])
 zip_more R [] [] x y all one = (one, tt)
 zip_more R (a ∷ xs) (b ∷ ys) x y all one = (all.0, zip_more R xs ys x y all.1 one)
-zip_more R [] (b ∷ ys) x y all one = absurd all
-zip_more R (a ∷ xs) [] x y all one = absurd all
+zip_more R xs ys x y all one = absurd all
 
 -- ---- the names of the shards
 
@@ -110,10 +98,7 @@ module _ {D F S : Type 0} (facts : Ghosts D F) (core_of : S → CoreState D) (lo
   pub named_all : (stores : List S) → AreNewLogs (map log_of stores)
       → All (λ (store : S). IsNamedFor facts (seen_at facts (map core_of stores)) (book_at (map log_of stores)) (core_of store) (log_of store)) stores
   named_all stores logs = named_at (seen_at facts (map core_of stores)) (book_at (map log_of stores)) (λ n. n) stores logs
-      (λ i store at. (
-        ap (option_map (seen facts)) (get_made core_of stores i store at),
-        ap (λ (o : Option CallsSeen). unwrap_or (option_map (λ (log : CallsSeen). log.book) o) no_book) (get_made log_of stores i store at),
-      ))
+      (λ i store here. (rw (slice_get-map core_of stores i, here), rw (slice_get-map log_of stores i, here)))
 
 -- ---- the calls of all shards
 
@@ -122,19 +107,14 @@ module _ {D F T S : Type 0} (facts : Ghosts D F) (counts : T → ℕ → ℕ →
       → ((i : ℕ) (trace : AnchoredState T) → slice_get (map trace_of desks) i ≡ Some trace → trace.shard ≡ place i)
       → AllZip (λ (desk : S) (disk : D). IsLedFrom facts first counts (core_of desk) (trace_of desk) disk) desks disks
       → (i : ℕ) (disk : D) → slice_get disks i ≡ Some disk → LeavesFrom facts (first (place i)) disk
-  led_at first place [] [] there led i disk at = absurd (cc)
-  led_at first place (desk ∷ desks) (d ∷ disks) there led zero disk at =
+  led_at first place [] [] there led i disk here = absurd (cc)
+  led_at first place (desk ∷ desks) (d ∷ disks) there led zero disk here =
       let same : d ≡ disk = cc in
       let past = led.0.1 in
-      subst (LeavesFrom facts (first (place 0))) same (
-        core_of desk,
-        past.calls,
-        led.0.0,
-        subst (λ (n : ℕ). LeadsFrom (first n) past.calls (seen facts (core_of desk))) (there 0 (trace_of desk) refl) past.leads,
-      )
-  led_at first place (desk ∷ desks) (d ∷ disks) there led (suc i) disk at = led_at first (λ n. place (suc n)) desks disks (λ n. there (suc n)) led.1 i disk at
-  led_at first place [] (d ∷ disks) there led i disk at = absurd led
-  led_at first place (desk ∷ desks) [] there led i disk at = absurd led
+      let leads : LeadsFrom (first (place 0)) past.calls (seen facts (core_of desk)) = rw (there 0 (trace_of desk) refl) at past.leads in
+      subst (LeavesFrom facts (first (place 0))) same (core_of desk, past.calls, led.0.0, leads)
+  led_at first place (desk ∷ desks) (d ∷ disks) there led (suc i) disk here = led_at first (λ n. place (suc n)) desks disks (λ n. there (suc n)) led.1 i disk here
+  led_at first place desks disks there led i disk here = absurd led
 
   -- desks in their places leave disks that calls lead to, each from the store that is named for its place
   pub led_each : (first : ℕ → Option SeenStore) (desks : List S) (disks : List D) → AreInPlace (map trace_of desks)
@@ -145,12 +125,9 @@ module _ {D F : Type 0} (facts : Ghosts D F) where
   leaves_zip : (first : ℕ → Option SeenStore) (cores : List (CoreState D)) (disks : List D) → ((i : ℕ) → first i ≡ seen_at facts cores i) → length disks ≡ length cores
       → EachFrom facts first disks → AllZip (LeavesCalls facts) cores disks
   leaves_zip first [] [] is long each = tt
-  leaves_zip first (core ∷ cores) (disk ∷ disks) is long each = (
-    subst (λ (named : Option SeenStore). LeavesFrom facts named disk) (is 0) (each 0 disk refl),
-    leaves_zip (λ n. first (suc n)) cores disks (λ n. is (suc n)) (omega (arith, long)) (λ n. each (suc n)),
-  )
-  leaves_zip first [] (disk ∷ disks) is long each = absurd (omega (arith, long))
-  leaves_zip first (core ∷ cores) [] is long each = absurd (omega (arith, long))
+  leaves_zip first (core ∷ cores) (disk ∷ disks) is long each =
+      (rw (is 0) at (each 0 disk refl), leaves_zip (λ n. first (suc n)) cores disks (λ n. is (suc n)) (omega (arith, long)) (λ n. each (suc n)))
+  leaves_zip first cores disks is long each = absurd (omega (arith, long))
 
   -- each disk is left by calls from the store at its place, if the names are those of these stores
   pub leaves_each : (first : ℕ → Option SeenStore) (cores : List (CoreState D)) (disks : List D) → ((i : ℕ) → first i ≡ seen_at facts cores i)
@@ -171,4 +148,4 @@ some_served_written has_port counts traces_of (Some x) before mid after head pri
 
 -- there are no disks
 pub each_none : {D F : Type 0} (facts : Ghosts D F) (first : ℕ → Option SeenStore) (disks : List D) → disks ≡ [] → EachFrom facts first disks
-each_none facts first disks none = subst (EachFrom facts first) (sym none) (λ i disk at. absurd (cc))
+each_none facts first disks none = rw none (λ i disk here. absurd (cc))

@@ -1,4 +1,4 @@
-use Rattle.std.proofs.Common.{◌<◌, ◌≤◌, [], ◌∷◌, ◌++◌, arith, length, refl, subst, sym}
+use Rattle.std.proofs.Common.{◌<◌, ◌≤◌, [], ◌∷◌, ◌++◌, arith, length, refl}
 use Rattle.silt_server.proofs.Sets.{calls_all, calls_next, sum_more}
 use Rattle.silt_server.proofs.serve_set.calls_at.Goals as goal
 
@@ -12,7 +12,7 @@ loop-desk-preserved g c =
     let i = c.loop-desk.desk-index in
     let within : i < length desks = omega arith in
     let (n, m, counts) = c.trace.ensures.counts in
-    let number = (c.numbers-calls.ensures n m (subst (λ t. g.T.Trace.counts t n m) (sym c.trace.ensures.trace) counts)).0 in (
+    let number = (c.numbers-calls.ensures n m (rw c.trace.ensures.trace counts)).0 in (
       before.0 ++ n ∷ [],
       calls_next g.T.Trace.counts (λ desk. desk.trace) desks i c.desk-item.result before.0 n m within c.desk-item.is before.1 counts,
       omega (arith, sum_more before.0 n, before.2, number),

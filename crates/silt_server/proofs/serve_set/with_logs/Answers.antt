@@ -1,9 +1,6 @@
-use Rattle.std.proofs.Common.{◌≡◌, ◌∙◌, ◌++◌, ◌∷◌, [], List, ap, append_assoc, arith, length, map, rules, subst, sym}
+use Rattle.std.proofs.Common.{◌≡◌, ◌∙◌, ◌++◌, ◌∷◌, [], ap, append_assoc, arith, length, map, rules, sym, vec_len}
 use Rattle.std.proofs.lemmas.List.{append-nil, map-append, nil_from_length}
-use Rattle.std.specs.Prelude.{vec_len}
 use Rattle.std.specs.Vec.Iter.{into_iter_items}
-use Rattle.silt_store_set.specs.CoreState.{CoreState}
-use Rattle.silt_server.specs.Serving.{AreNewLogs}
 use Rattle.silt_server.proofs.Sets.{at_last_of}
 use Rattle.silt_server.proofs.serve_set.with_logs.Goals as goal
 
@@ -20,7 +17,7 @@ loop-core-init g c =
       made = omega (arith, stores.len);
       room = omega (arith, stores.len, stores.room, c.len.ensures, ap length given.0, long);
       cores = ap (λ l. map (λ store. store.core) l ++ into_iter_items c.into_iter-core-iterator.result) none;
-      logs = subst (λ l. AreNewLogs (map (λ store. store.log) l)) (sym none) (λ i log at. absurd (cc));
+      logs = rw none (λ i log here. absurd (cc));
     }
 
 pub loop-core-preserved : goal.loop-core-preserved
@@ -36,7 +33,7 @@ loop-core-preserved g c =
       room = omega (arith, before.room, ap length items, c.push_reserved.ensures.len, c.push_reserved.ensures.capacity);
       cores = ap (λ l. map (λ store. store.core) l ++ into_iter_items c.next.new.self) more ∙ ap (λ l. l ++ into_iter_items c.next.new.self) (map-append (λ store. store.core) stores _)
           ∙ append_assoc (map (λ store. store.core) stores) (c.in-Some.core ∷ []) (into_iter_items c.next.new.self)
-          ∙ ap (λ (l : List (CoreState g.row.D.Denot)). map (λ store. store.core) stores ++ l) (sym items) ∙ before.cores;
+          ∙ ap (λ l. map (λ store. store.core) stores ++ l) (sym items) ∙ before.cores;
       logs = at_last_of (λ i log. (log.shard ≡ i) × (log.calls ≡ [])) (λ store. store.log) stores _ _ more before.logs
           (c.new-log.ensures.shard ∙ c.len-in-loop-core.ensures ∙ search rules, c.new-log.ensures.calls);
     }
@@ -46,5 +43,4 @@ returns-clause-cores g c =
     let before = c.loop-core.invariant in
     let left = c.loop-core.core-iterator in
     let ended = nil_from_length (into_iter_items left) (omega (arith, c.in-None.ensures.steps.0, left.rest.ok.0)) in
-    let all = map (λ store. store.core) c.loop-core.stores.items in
-    sym (append-nil all) ∙ ap (λ (l : List (CoreState g.row.D.Denot)). all ++ l) (sym ended) ∙ before.cores ∙ c.into_iter-core-iterator.ensures.into_iter_gives.0
+    rw (ended, append-nil, c.into_iter-core-iterator.ensures.into_iter_gives.0) at before.cores

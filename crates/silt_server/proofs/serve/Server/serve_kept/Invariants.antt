@@ -1,4 +1,4 @@
-use Rattle.std.specs.Prelude.{Some}
+use Rattle.std.proofs.Common.{Some}
 use Rattle.silt_desk.specs.Seeing.{seen}
 use Rattle.silt_server.proofs.serve.Server.serve_kept.Given as goal
 

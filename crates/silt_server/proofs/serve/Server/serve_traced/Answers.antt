@@ -1,8 +1,5 @@
-use Rattle.std.proofs.Common.{◌∙◌, ap, subst, sym}
+use Rattle.std.proofs.Common.{◌∙◌, ap, sym}
 use Rattle.silt_wire.proofs.Statuses.{never_done}
-use Rattle.silt_store_set.specs.CoreState.{CoreState}
-use Rattle.silt_desk.specs.Anchors.{HasPast}
-use Rattle.silt_desk.specs.Seeing.{seen}
 use Rattle.silt_server.proofs.serve.Server.serve_traced.Goals as goal
 
 pub returns-in-Some : goal.returns-in-Some
@@ -14,7 +11,7 @@ returns-in-Some g c =
         state = desk.trace;
         is = sym c.close-in-Ok.ensures.disk;
         agreed = c.trace-known-in-Ok.ensures.agrees.0;
-        past = subst (λ named. HasPast named g.T.Trace.counts desk.trace (seen g.D.Disk desk.core)) (c.requires.trace.0 desk.trace.shard) c.trace-known-in-Ok.ensures.agrees.1;
+        past = rw (c.requires.trace.0 desk.trace.shard) at c.trace-known-in-Ok.ensures.agrees.1;
         printed = c.serve_desk-desk.ensures.served;
       };
       printed = c.serve_desk-desk.ensures.printed;
@@ -29,7 +26,7 @@ returns-in_default-clause-traced g c =
       state = desk.trace;
       is = sym c.close.ensures.disk;
       agreed = c.trace-known.ensures.agrees.0;
-      past = subst (λ named. HasPast named g.T.Trace.counts desk.trace (seen g.D.Disk desk.core)) (c.requires.trace.0 desk.trace.shard) c.trace-known.ensures.agrees.1;
+      past = rw (c.requires.trace.0 desk.trace.shard) at c.trace-known.ensures.agrees.1;
       printed = never_done _ c.refuse-status.result c.refuse-status.ensures;
     }
 
@@ -39,8 +36,8 @@ returns-in-Err-clause-traced g c =
     record {
       last = c.args.core;
       state = state;
-      is = sym (c.close-in-Err.ensures.disk ∙ ap (λ (core : CoreState _). core.disk) c.in-Err.ensures.err.0);
+      is = sym (c.close-in-Err.ensures.disk ∙ ap (λ core. core.disk) c.in-Err.ensures.err.0);
       agreed = c.new-trace.ensures.agrees;
-      past = subst (λ named. HasPast named g.T.Trace.counts state (seen g.D.Disk c.args.core)) (c.requires.trace.0 state.shard) c.new-trace.ensures.past;
+      past = rw (c.requires.trace.0 state.shard) at c.new-trace.ensures.past;
       printed = never_done _ c.refuse-status-in-Err.result c.refuse-status-in-Err.ensures;
     }

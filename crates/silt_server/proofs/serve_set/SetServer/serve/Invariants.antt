@@ -1,4 +1,4 @@
-use Rattle.std.specs.Prelude.{◌^◌, map}
+use Rattle.std.proofs.Common.{◌^◌, map}
 use Rattle.silt_server.proofs.Sets.{book_at}
 use Rattle.silt_server.specs.Serving.{seen_at}
 use Rattle.silt_server.proofs.serve_set.SetServer.serve.Given as goal

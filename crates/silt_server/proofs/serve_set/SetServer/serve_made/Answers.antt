@@ -1,7 +1,5 @@
-use Rattle.std.proofs.Common.{◌≡◌, ◌%◌, ◌^◌, [], arith, inl, inr, length, subst, sym, vec_len, rules}
+use Rattle.std.proofs.Common.{◌≡◌, ◌%◌, ◌^◌, arith, inl, inr, length, vec_len, rules}
 use Rattle.std.specs.List.{sum}
-use Rattle.std.proofs.lemmas.List.Elements.{All-nil}
-use Rattle.std.specs.Prelude.{All}
 use Rattle.silt_server.proofs.Sets.{each_none, led_each}
 use Rattle.silt_server.proofs.serve_set.SetServer.serve_made.Goals as goal
 

@@ -1,12 +1,5 @@
-use denote.Param.Send.{sendable}
-use Rattle.std.proofs.Crossing.{crosses}
-use Rattle.std.proofs.sync.RwLock.TheSendSync.{the_sync as lock_sync}
-use Rattle.silt_desk.proofs.Shares.{desk_send, desk_sync}
-use Rattle.silt_session.proofs.job.Job.TheSendSync.{the_send as job_send, the_sync as job_sync}
-use Rattle.silt_session.proofs.job_log.JobLog.TheSendSync.{the_sync as log_sync}
-use Rattle.silt_server.proofs.common.Serving.TheSendSync.{the_sync as serving_sync}
-use Rattle.silt_server.proofs.serving_set.ServingSet.TheSendSync.{the_sync as set_sync}
+use Rattle.silt_server.proofs.Sends.{shared}
 use Rattle.silt_server.proofs.serving_set.ServingSet+Serving+Shared+D+T+N+Job+D+T+N+N+G+R.serve_sessions.Goals as goal
 
 pub accept_clients-accepted-requires-sync-S : goal.accept_clients-accepted-requires-sync-S
-accept_clients-accepted-requires-sync-S g c κs within = search (sendable, crosses, lock_sync, desk_send, desk_sync, serving_sync, set_sync, job_send, job_sync, log_sync) depth 20
+accept_clients-accepted-requires-sync-S g c κs within = search shared depth 20
