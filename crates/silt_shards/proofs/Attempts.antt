@@ -1,5 +1,6 @@
 -- Attempts that become the stores of a set.
-use Rattle.std.proofs.Common.{◌≡◌, ◌<◌, ℕ, suc, List, [], ◌∷◌, ◌++◌, length, append_assoc, Result, Ok, Err, refl, ap, sym, ◌∙◌, subst, arith}
+use Rattle.std.proofs.Math.Seq.{take-append_seam}
+use Rattle.std.proofs.Common.{◌≡◌, ◌<◌, ℕ, suc, List, [], ◌∷◌, ◌++◌, length, append_assoc, Result, Ok, Err, refl, ap, sym, ◌∙◌, arith, rules}
 use Rattle.std.specs.List.{AllZip}
 use Rattle.std.proofs.lemmas.List.{append-nil}
 use Rattle.std.proofs.lemmas.Slice.Zip.{AllZip-long}
@@ -18,15 +19,11 @@ use Rattle.silt_shards.proofs.Openings.{open_more, refused_next}
 -- each item became another one, to which the same things belong
 pub zip_changed : {X Y : Type 0} (R : X → Y → Type 0) (xs : List X) (ys zs : List Y) → length zs ≡ length ys
     → ((i : ℕ) (d : Y) → i < length ys → (x : X) → R x (slice_index_or ys i d) → R x (slice_index_or zs i d)) → AllZip R xs ys → AllZip R xs zs
-zip_changed R [] [] [] same change every = tt
-zip_changed R [] [] (z ∷ zs) same change every = absurd (omega (arith, same))
-zip_changed R [] (y ∷ ys) zs same change every = absurd every
-zip_changed R (x ∷ xs) [] zs same change every = absurd every
-zip_changed R (x ∷ xs) (y ∷ ys) [] same change every = absurd (omega (arith, same))
 zip_changed R (x ∷ xs) (y ∷ ys) (z ∷ zs) same change every = (
   change 0 y (omega arith) x every.0,
   zip_changed R xs ys zs (omega (arith, same)) (λ i d within other on. change (suc i) d (omega (arith, within)) other on) every.1,
 )
+zip_changed R xs ys zs same change every = search (rules, arith)
 
 -- what belongs to the first item, and what to the others
 pub zip_front : {X Y : Type 0} (R : X → Y → Type 0) (xs : List X) (y : Y) (ys : List Y) → AllZip R xs (y ∷ ys)
@@ -36,17 +33,12 @@ zip_front R (x ∷ xs) y ys every = (x, xs, refl, every.0, every.1)
 
 -- the pairs so far are all pairs
 pub zip_whole : {X Y : Type 0} (R : X → Y → Type 0) (xs done rest : List X) (ys : List Y) → done ++ rest ≡ xs → length rest ≡ 0 → AllZip R done ys → AllZip R xs ys
-zip_whole R xs done [] ys is none every = subst (λ l. AllZip R l ys) (sym (append-nil done) ∙ is) every
+zip_whole R xs done [] ys is none every = rw (← is, append-nil done) every
 zip_whole R xs done (r ∷ rest) ys is none every = absurd (omega (arith, none))
 
 -- a list whose items were all changed in place is the list of the new ones
 pub all_back : {X : Type 0} (len : ℕ) (new old : List X) → length new ≡ length old → len ≡ length old → take len (new ++ drop (length new) old) ≡ new
-all_back len [] [] same is = ap (λ (n : ℕ). take n []) is
-all_back len [] (y ∷ old) same is = absurd (omega (arith, same))
-all_back len (x ∷ new) [] same is = absurd (omega (arith, same))
-all_back {X} len (x ∷ new) (y ∷ old) same is =
-    ap (λ (n : ℕ). take n (x ∷ new ++ drop (length (x ∷ new)) (y ∷ old))) is
-    ∙ ap (λ (l : List X). x ∷ l) (all_back (length old) new old (omega (arith, same)) refl)
+all_back len new old same is = search (arith, take-append_seam)
 
 -- what holds anyway holds of a result too
 pub ok_anyway : {A E : Type 0} (P : Type 0) (result : Result A E) → P → IfOk result (λ (a : A). P)
@@ -66,13 +58,7 @@ module _ {D F : Type 0} (facts : Ghosts D F) where
 
   -- none is open yet
   pub gathers_none : (disks : List D) (cores : List (CoreState D)) (left : List (Attempt D F)) → cores ≡ [] → AllZip (IsAttemptOn facts) disks left → Gathers disks cores left
-  gathers_none disks cores left none every = record {
-    done = [];
-    rest = disks;
-    all = refl;
-    opened = subst (λ (l : List (CoreState D)). AllZip (λ disk (core : CoreState D). Opens facts (facts.content disk) core) [] l) (sym none) tt;
-    on = every;
-  }
+  gathers_none disks cores left none every = record { done = []; rest = disks; all = refl; opened = rw none tt; on = every }
 
   -- the next attempt is one on some disk
   pub gathers_next : (disks : List D) (cores : List (CoreState D)) (attempt : Attempt D F) (left : List (Attempt D F)) → Gathers disks cores (attempt ∷ left)
@@ -107,5 +93,4 @@ module _ {D F : Type 0} (facts : Ghosts D F) where
       → ((disk : D) → IsAttemptOn facts disk attempt → LeavesNoOther (facts.content disk) (facts.content back)) → IsRefusedSet facts disks shard back cause
   gathers_refused disks cores attempt left shard back cause now number caused images =
       let front = zip_front (IsAttemptOn facts) now.rest attempt left now.on in
-      let all : now.done ++ front.0 ∷ front.1 ≡ disks = ap (λ (l : List D). now.done ++ l) (sym front.2) ∙ now.all in
-      refused_next facts disks now.done front.1 front.0 back cores shard cause all now.opened number (caused front.0 front.3) (images front.0 front.3)
+      refused_next facts disks now.done front.1 front.0 back cores shard cause (rw front.2 at now.all) now.opened number (caused front.0 front.3) (images front.0 front.3)

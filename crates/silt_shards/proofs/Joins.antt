@@ -1,12 +1,12 @@
 -- The replies of shards to a flush, joined one after the other.
-use Rattle.std.proofs.Common.{◌≡◌, ℕ, ◌+◌, ◌-◌, ◌^◌, true, false, not, cond, Option, Some, None, List, [], ◌∷◌, ◌++◌, min, refl, sym, ◌∙◌, ap, arith}
+use Rattle.std.proofs.Common.{◌≡◌, ℕ, ◌+◌, ◌-◌, ◌^◌, true, false, not, Option, Some, None, List, [], ◌∷◌, ◌++◌, min, refl, ap, arith}
 use Rattle.std.specs.Prelude.{All, find, sum_by, unwrap_or}
 use Rattle.std.specs.Option.{option_or}
 use Rattle.std.proofs.lemmas.List.Elements.{All-cons, All-nil}
 use Rattle.std.proofs.lemmas.List.Folds.{find-append}
 use Rattle.std.proofs.lemmas.List.Sums.{sum_by-append}
 use Rattle.silt_event.specs.Events.{PlainReply, acknowledged_by}
-use Rattle.silt_event.specs.declared.reply.Reply.TheVariants.{Accepted, Acknowledged, Found, Absent, Differs, Progress, Refused, Unsettled, NotServed}
+use Rattle.silt_event.specs.declared.reply.Reply.TheVariants.{Accepted, Acknowledged}
 use Rattle.silt_shards.specs.Sets.{acknowledges, as_count, joined}
 
 -- the sum of what replies acknowledge
@@ -40,14 +40,7 @@ firsts (Acknowledged n ∷ parts) = elim (firsts parts) [
   | no_refusal is every ↦ no_refusal is (All-cons (λ part. acknowledges part ≡ true) (Acknowledged n) parts refl every)
   | has_refusal refusal is not_it ↦ has_refusal refusal is not_it
 ]
-firsts (Accepted n ∷ parts) = has_refusal (Accepted n) refl refl
-firsts (Found value ∷ parts) = has_refusal (Found value) refl refl
-firsts (Absent ∷ parts) = has_refusal Absent refl refl
-firsts (Differs ∷ parts) = has_refusal Differs refl refl
-firsts (Progress progress ∷ parts) = has_refusal (Progress progress) refl refl
-firsts (Refused refusal ∷ parts) = has_refusal (Refused refusal) refl refl
-firsts (Unsettled n ∷ parts) = has_refusal (Unsettled n) refl refl
-firsts (NotServed ∷ parts) = has_refusal NotServed refl refl
+firsts (part ∷ parts) = has_refusal part refl refl
 
 pub joins : (parts : List PlainReply) → Joins parts
 joins parts = elim (firsts parts) [
@@ -61,10 +54,7 @@ refusal_append parts part = find-append (λ p. not (acknowledges p)) parts (part
 
 -- a refusal stays
 pub joined_stays : (parts : List PlainReply) (so_far part : PlainReply) → acknowledges so_far ≡ false → so_far ≡ joined parts → so_far ≡ joined (parts ++ part ∷ [])
-joined_stays parts so_far part not_it is = elim (joins parts) [
-  | joins_all absent every same ↦ absurd (let wrong : acknowledges so_far ≡ true = ap acknowledges (is ∙ same) in cc)
-  | joins_one refusal present not_one same ↦ is ∙ same ∙ sym (joined_some (parts ++ part ∷ []) refusal (refusal_append parts part ∙ ap (λ o. option_or o (first_refusal (part ∷ []))) present))
-]
+joined_stays parts so_far part not_it is = search (arith, joins, joined_some, refusal_append)
 
 -- a sum that is cut off twice
 cut_twice : (sum n : ℕ) → min (min sum (2 ^ 64 - 1) + n) (2 ^ 64 - 1) ≡ min (sum + (0 + n)) (2 ^ 64 - 1)
@@ -72,33 +62,16 @@ cut_twice sum n = omega arith
 
 -- one more count is added
 pub joined_adds : (parts : List PlainReply) (sum n : ℕ) → Acknowledged sum ≡ joined parts → Acknowledged (min (sum + n) (2 ^ 64 - 1)) ≡ joined (parts ++ Acknowledged n ∷ [])
-joined_adds parts sum n is = elim (joins parts) [
-  | joins_all absent every same ↦
-      let counted : sum ≡ as_count (sum_of parts) = ap (acknowledged_by 0) (is ∙ same) in
-      let total : sum_of (parts ++ Acknowledged n ∷ []) ≡ sum_of parts + (0 + n) = sum_by-append (acknowledged_by 0) parts (Acknowledged n ∷ []) in
-      let still : first_refusal (parts ++ Acknowledged n ∷ []) ≡ None = refusal_append parts (Acknowledged n) ∙ ap (λ o. option_or o (first_refusal (Acknowledged n ∷ []))) absent in
-      let number : min (sum + n) (2 ^ 64 - 1) ≡ as_count (sum_of (parts ++ Acknowledged n ∷ [])) =
-      ap (λ s. min (s + n) (2 ^ 64 - 1)) counted ∙ cut_twice (sum_of parts) n ∙ ap as_count (sym total) in
-      ap (λ (m : ℕ). Acknowledged m) number ∙ sym (joined_none (parts ++ Acknowledged n ∷ []) still)
-  | joins_one refusal present not_one same ↦ absurd (let wrong : true ≡ acknowledges refusal = ap acknowledges (is ∙ same) in cc)
-]
+joined_adds parts sum n is = search (arith, joins, sum_by-append, refusal_append, cut_twice, joined_none)
 
 -- the first refusal comes
 pub joined_refuses : (parts : List PlainReply) (sum : ℕ) (part : PlainReply) → acknowledges part ≡ false → Acknowledged sum ≡ joined parts → part ≡ joined (parts ++ part ∷ [])
-joined_refuses parts sum part not_it is = elim (joins parts) [
-  | joins_all absent every same ↦
-      let found : first_refusal (part ∷ []) ≡ Some part = ap (λ b. cond (not b) (Some part) None) not_it in
-      sym (joined_some (parts ++ part ∷ []) part (refusal_append parts part ∙ ap (λ o. option_or o (first_refusal (part ∷ []))) absent ∙ found))
-  | joins_one refusal present not_one same ↦ absurd (let wrong : true ≡ acknowledges refusal = ap acknowledges (is ∙ same) in cc)
-]
+joined_refuses parts sum part not_it is = search (arith, joins, joined_some, refusal_append)
 
 -- a joined reply that acknowledges is the sum of replies that all acknowledge
 pub joined_all : (parts : List PlainReply) (n : ℕ) → joined parts ≡ Acknowledged n
     → All (λ part. acknowledges part ≡ true) parts × (n ≡ as_count (sum_of parts))
-joined_all parts n is = elim (joins parts) [
-  | joins_all absent every same ↦ (every, ap (acknowledged_by 0) (sym is ∙ same))
-  | joins_one refusal present not_one same ↦ absurd (let wrong : acknowledges refusal ≡ true = ap acknowledges (sym same ∙ is) in cc)
-]
+joined_all parts n is = search (arith, joins)
 
 -- a reply that is no acknowledgement
 pub acknowledges_not : (reply : PlainReply) → ((n : ℕ) → reply ≡ Acknowledged n → ⊥) → acknowledges reply ≡ false

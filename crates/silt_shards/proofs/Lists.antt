@@ -1,5 +1,5 @@
 -- Lists of shards that are changed one after the other.
-use Rattle.std.proofs.Common.{◌≡◌, ◌<◌, inl, inr, ℕ, zero, suc, ◌+◌, Some, List, [], ◌∷◌, ◌++◌, length, take, drop, set, get_or, refl, sym, ◌∙◌, ap, subst, arith}
+use Rattle.std.proofs.Common.{◌≡◌, ◌<◌, ℕ, suc, ◌+◌, Some, List, [], ◌∷◌, ◌++◌, length, take, drop, set, get_or, sym, ◌∙◌, ap, subst, arith, rules}
 use Rattle.std.specs.Prelude.{All, slice_get}
 use Rattle.std.proofs.Math.Seq.{take-append_seam}
 use Rattle.std.proofs.lemmas.Grind.{drop_more_same}
@@ -10,17 +10,13 @@ use Rattle.std.proofs.lemmas.Bool.{cases_eq}
 module _ {X : Type 0} where
   -- the item that was set
   pub get_set_same : (xs : List X) (i : ℕ) (x y : X) → slice_get xs i ≡ Some x → slice_get (set xs i y) i ≡ Some y
-  get_set_same [] i x y there = absurd (none-some x there)
-  get_set_same (a ∷ xs) zero x y there = refl
   get_set_same (a ∷ xs) (suc i) x y there = get_set_same xs i x y there
+  get_set_same xs i x y there = search (rules, arith, none-some)
 
   -- another item
   pub get_set_other : (xs : List X) (i j : ℕ) (y : X) → (i ≡ j → ⊥) → slice_get (set xs i y) j ≡ slice_get xs j
-  get_set_other [] i j y other = refl
-  get_set_other (a ∷ xs) zero zero y other = absurd (other refl)
-  get_set_other (a ∷ xs) zero (suc j) y other = refl
-  get_set_other (a ∷ xs) (suc i) zero y other = refl
   get_set_other (a ∷ xs) (suc i) (suc j) y other = get_set_other xs i j y (λ same. other (ap suc same))
+  get_set_other xs i j y other = search (rules, arith)
 
   -- what holds of each item holds of one that is looked up
   pub all_at : (P : X → Type 0) (xs : List X) (i : ℕ) (x : X) → All P xs → slice_get xs i ≡ Some x → P x
@@ -28,12 +24,7 @@ module _ {X : Type 0} where
 
   -- it still holds if one item is set to one of which it holds
   pub all_set : (P : X → Type 0) (xs : List X) (i : ℕ) (y : X) → All P xs → P y → All P (set xs i y)
-  all_set P xs i y every new = λ k d within.
-      let inside : k < length xs = omega (arith, within, length-set xs i y) in
-      elim (cases_eq k i) [
-        | inl same ↦ subst P (sym (ap (λ (j : ℕ). get_or (set xs i y) j d) same ∙ get_or-set_same xs i y d (subst (λ (j : ℕ). j < length xs) same inside))) new
-        | inr apart ↦ subst P (sym (get_or-set_other xs i k y d apart)) (every k d inside)
-      ]
+  all_set P xs i y every new = search (arith, length-set, cases_eq, get_or-set_same, get_or-set_other)
 
   -- what is not reached yet is the same in both lists
   same_at : (xs ys : List X) (i : ℕ) (d : X) → i < length xs → i < length ys → drop i ys ≡ drop i xs → get_or ys i d ≡ get_or xs i d
@@ -54,7 +45,4 @@ module _ {X : Type 0} where
     pub changed_next : (xs ys : List X) (i : ℕ) (d new : X) → i < length xs → length ys ≡ length xs → drop i ys ≡ drop i xs
         → (get_or ys i d ≡ get_or xs i d → Rel (take i xs ++ get_or xs i d ∷ []) (take i ys ++ new ∷ []))
         → Rel (take (i + 1) xs) (take (i + 1) (set ys i new))
-    changed_next xs ys i d new in_xs len same more =
-        let in_ys : i < length ys = omega (arith, len, in_xs) in
-        subst (λ (l : List X). Rel l (take (i + 1) (set ys i new))) (sym (take_more xs i d in_xs))
-        (subst (λ (l : List X). Rel (take i xs ++ get_or xs i d ∷ []) l) (sym (take_more_set ys i new in_ys)) (more (same_at xs ys i d in_xs in_ys same)))
+    changed_next xs ys i d new in_xs len same more = search (arith, take_more, take_more_set, same_at)

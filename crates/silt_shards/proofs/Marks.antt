@@ -1,6 +1,6 @@
 -- Marks: what is written is read, what a crash leaves, and that stores do not see them.
-use Rattle.std.proofs.Common.{◌≡◌, ◌≤◌, ◌<◌, ◌⊎◌, inl, inr, ℕ, ◌+◌, ◌-◌, ◌^◌, Bool, true, false, not, ◌&&◌, nat_le, IsTrue, List, [], ◌∷◌, ◌++◌, length, get_or}
-use Rattle.std.proofs.Common.{slice_range, slice_index, take, drop, min, refl, ap, sym, ◌∙◌, subst, arith}
+use Rattle.std.proofs.Common.{◌≡◌, ◌≤◌, ◌<◌, ◌⊎◌, inl, inr, ℕ, ◌+◌, ◌-◌, ◌^◌, Bool, true, ◌&&◌, nat_le, IsTrue, List, [], ◌∷◌, length, get_or, slice_range, slice_index, take, drop, ap, sym}
+use Rattle.std.proofs.Common.{◌∙◌, subst, arith}
 use Rattle.std.specs.Prelude.{if◌then◌else◌}
 use Rattle.std.proofs.lemmas.Bool.{cases_Bool, cases_eq, ne_eqb, and_parts}
 use Rattle.std.proofs.lemmas.Bool.Decides.{nat_tests}
@@ -8,12 +8,11 @@ use Rattle.std.proofs.lemmas.List.{ext_get_or, length-drop, length-take, take_al
 use Rattle.std.proofs.lemmas.List.Edits.{get_or-between}
 use Rattle.byteorder.specs.Endian.{big_number, big_bytes}
 use Rattle.byteorder.specs.Numbers.{big_number-reads_back}
-use Rattle.silt_disk.specs.Disk.{ChangesWithin, Content, LeavesOnly, Rests, Torn, Writes, size, splice}
+use Rattle.silt_disk.specs.Disk.{ChangesWithin, Content, LeavesOnly, Rests, Torn, Writes, size}
 use Rattle.silt_disk.specs.Header.{header_shape}
-use Rattle.silt_disk.specs.Layout.{Shape, commits_at, hash_at, hash_size, log_size, sorted_at, sorted_size}
+use Rattle.silt_disk.specs.Layout.{Shape}
 use Rattle.silt_disk.proofs.Images.{left_at_rest, rests_leaves, splice_byte, splice_slice, torn_wider, within_leaves}
 use Rattle.silt_event.specs.Commands.{Map}
-use Rattle.silt_frame.specs.Commit.{is_open}
 use Rattle.silt_image.specs.Laws.{Agree}
 use Rattle.silt_image.specs.Meaning.{StandsFor}
 use Rattle.silt_image.proofs.Frame.{frame_law, meaning_law, torn_same}
@@ -27,8 +26,7 @@ use Rattle.silt_shards.specs.declared.mark.Marking.TheVariants.{Unmarked, Marked
 
 -- the range has as many bytes in lists of one length
 range_len : (xs ys : List ℕ) (from to : ℕ) → length xs ≡ length ys → length (slice_range xs from to) ≡ length (slice_range ys from to)
-range_len xs ys from to same =
-    length-take (to - from) (drop from xs) ∙ ap (min (to - from)) (length-drop from xs ∙ ap (λ (n : ℕ). n - from) same ∙ sym (length-drop from ys)) ∙ sym (length-take (to - from) (drop from ys))
+range_len xs ys from to same = search (arith, length-take, length-drop)
 
 -- a place of the range lies before its end
 range_within : (xs : List ℕ) (from to place : ℕ) → place < length (slice_range xs from to) → from + place < to
@@ -38,8 +36,7 @@ range_within xs from to place inside = omega (arith, inside, length-take (to - f
 pub range_stays : (at count from to : ℕ) (before after : List ℕ) → Torn at count before after → (to ≤ at) ⊎ (at + count ≤ from)
     → slice_range after from to ≡ slice_range before from to
 range_stays at count from to before after torn apart =
-    ext_get_or 0 (slice_range after from to) (slice_range before from to) (range_len after before from to torn.size)
-    (λ place inside.
+    ext_get_or 0 (slice_range after from to) (slice_range before from to) (range_len after before from to torn.size) (λ place inside.
     let near : from + place < to = range_within after from to place inside in
     let same : get_or after (from + place) 0 ≡ get_or before (from + place) 0 = elim apart [
       | inl ends ↦ torn.before (from + place) (omega (arith, ends, near))
@@ -65,11 +62,7 @@ mark_agrees before after torn = record {
   header = range_stays 2048 37 0 37 before after torn (inl (omega arith));
   first_slot = ap record_behind (range_stays 2048 37 4096 4557 before after torn (inr (omega arith)));
   second_slot = ap record_behind (range_stays 2048 37 8192 8653 before after torn (inr (omega arith)));
-  regions = λ s is. record {
-    logs = λ region named. torn_same 2048 37 (commits_at s.shape region) (log_size s.shape) before after torn (inr (omega arith));
-    hashes = λ region named. torn_same 2048 37 (hash_at s.shape region) (hash_size s.shape) before after torn (inr (omega arith));
-    sorted = torn_same 2048 37 (sorted_at s.shape s.body.sorted) (sorted_size s.shape) before after torn (inr (omega arith));
-  };
+  regions = search (arith, torn_same);
 }
 
 pub mark_law : FileMarkLaw
@@ -89,8 +82,7 @@ stands_after shape map before after stands torn =
 
 pub stands_stays : (at count : ℕ) (old new : Content) → ChangesWithin at count old new → 2048 ≤ at → at + count ≤ 2085 → (shape : Shape) (map : Map)
     → LeavesOnly old (StandsFor shape map) → LeavesOnly new (StandsFor shape map)
-stands_stays at count old new changes low high shape map stands =
-    within_leaves changes stands (λ before after was torn. stands_after shape map before after was (torn_wider 2048 37 low high torn))
+stands_stays at count old new changes low high shape map stands = search (arith, within_leaves, stands_after, torn_wider)
 
 -- ---- a mark reads back
 
@@ -114,8 +106,7 @@ read_open mark is =
     let counted = reads mark.count (omega (arith, count_most mark is)) in
     let numbered = reads mark.shard (omega (arith, count_most mark is, is.shard)) in
     let named : take 16 mark.set ≡ mark.set = take_all 16 mark.set (omega (arith, is.set)) in
-    let valid = valid_shard mark is in
-    rw (counted, numbered, named, valid) refl
+    search (arith, valid_shard)
 
 -- ---- the commit byte
 
@@ -123,17 +114,8 @@ read_open mark is =
 commit_at : (image : List ℕ) → slice_index (mark_part image) 0 ≡ get_or image 2048 0
 commit_at image = get_or-between image 2048 2085 0 0 (omega arith)
 
--- what a closed commit byte says
-marking_shut : (b c : Bool) (rest : List ℕ) → b ≡ false → (if not (b && c) then Unmarked else marking_in rest) ≡ Unmarked
-marking_shut b c rest shut = rw shut refl
-
 pub closed_unmarked : (image : List ℕ) → IsMarkClosed image → marking_of image ≡ Unmarked
-closed_unmarked image closed =
-    let shut : is_open (slice_index (mark_part image) 0) ≡ false = ap (λ (commit : ℕ). is_open commit) (commit_at image) ∙ ne_eqb (get_or image 2048 0) 167 closed in
-    elim (cases_Bool (nat_le 2085 (length image))) [
-      | inl long ↦ rw (long, shut) refl
-      | inr short ↦ rw short refl
-    ]
+closed_unmarked image closed = search (arith, commit_at, ne_eqb, cases_Bool)
 
 -- an open commit byte with the mark behind it
 opened_marked : (mark : Mark) (image : List ℕ) → IsShardMark mark → 2085 ≤ length image → mark_part image ≡ 167 ∷ mark_bytes mark → marking_of image ≡ Marked mark
@@ -146,9 +128,8 @@ pub commit_closed : (old new : Content) → 2085 ≤ size old → Writes 2048 (0
 commit_closed old new least writes rests = rests_leaves rests (record {
   holds = λ honest opened.
       let h : IsTrue old.honest = sym writes.honest ∙ honest in
-      let byte : get_or new.shown 2048 0 ≡ 0 = ap (λ (image : List ℕ). get_or image 2048 0) (writes.shown h) ∙ splice_byte 2048 (0 ∷ []) old.shown 0 (omega (arith, least)) (omega arith) in
-      let wrong : 0 ≡ 167 = sym byte ∙ opened in
-      omega arith;
+      let byte : get_or new.shown 2048 0 ≡ 0 = cc (writes.shown h, splice_byte 2048 (0 ∷ []) old.shown 0 (omega (arith, least)) (omega arith)) in
+      search arith;
 })
 
 -- it stays closed under a change behind it
@@ -173,17 +154,15 @@ module _ (mark : Mark) (old between new : Content) (is : IsShardMark mark) (leas
       let len = mark_bytes_len mark is in
       let fits : 2049 + length (mark_bytes mark) ≤ length old.shown = omega (arith, len, least) in
       let end : 2085 ≡ 2049 + length (mark_bytes mark) = omega (arith, len) in
-      ap (λ (x : List ℕ). slice_range x 2049 2085) (writes.shown h) ∙ ap (λ (to : ℕ). slice_range (splice 2049 (mark_bytes mark) old.shown) 2049 to) end
-      ∙ splice_slice 2049 (mark_bytes mark) old.shown fits
+      cc (writes.shown h, splice_slice 2049 (mark_bytes mark) old.shown fits)
 
   -- an image with this commit byte
   torn_open : IsTrue between.honest → (image : List ℕ) → Torn 2048 1 between.shown image → get_or image 2048 0 ≡ 167 → marking_of image ≡ Marked mark
   torn_open honest image torn opened =
       let long : length image ≡ length old.shown = torn.size ∙ same in
-      let body : slice_range image 2049 2085 ≡ mark_bytes mark = range_stays 2048 1 2049 2085 between.shown image torn (inr (omega arith)) ∙ body_written honest in
-      let first : slice_range image 2048 2049 ≡ 167 ∷ [] = one_byte image 2048 (omega (arith, long, least)) ∙ ap (λ (n : ℕ). n ∷ []) opened in
-      opened_marked mark image is (omega (arith, long, least))
-      (slice_join image 2048 2049 2085 (omega arith) (omega arith) ∙ ap (λ (xs : List ℕ). xs ++ slice_range image 2049 2085) first ∙ ap (λ (xs : List ℕ). 167 ∷ xs) body)
+      let body : slice_range image 2049 2085 ≡ mark_bytes mark = range_stays 2048 1 2049 2085 _ image torn (inr (omega arith)) ∙ body_written honest in
+      let first : slice_range image 2048 2049 ≡ 167 ∷ [] = cc (one_byte image 2048 (omega (arith, long, least))) in
+      opened_marked mark image is (omega (arith, long, least)) (cc (slice_join image 2048 2049 2085 (omega arith) (omega arith)))
 
   pub mark_committed : ChangesWithin 2048 1 between new → LeavesOnly new (IsMarkedOrNot mark)
   mark_committed changes = record {
@@ -202,10 +181,9 @@ module _ (mark : Mark) (old between new : Content) (is : IsShardMark mark) (leas
   mark_settled commit changes settled = rests_leaves settled (record {
     holds = λ honest.
         let h : IsTrue between.honest = sym commit.honest ∙ honest in
-        let long : length between.shown ≡ length old.shown = same in
-        let byte : get_or new.shown 2048 0 ≡ 167 = ap (λ (image : List ℕ). get_or image 2048 0) (commit.shown h)
-        ∙ splice_byte 2048 (167 ∷ []) between.shown 0 (omega (arith, long, least)) (omega arith) in
-        torn_open h new.shown (changes.shown h) byte;
+        let long = same in
+        let byte : get_or new.shown 2048 0 ≡ 167 = cc (commit.shown h, splice_byte 2048 (167 ∷ []) between.shown 0 (omega (arith, long, least)) (omega arith)) in
+        torn_open h _ (changes.shown h) byte;
   })
 
 -- at the first commit byte

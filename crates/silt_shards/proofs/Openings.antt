@@ -1,5 +1,6 @@
 -- Disks that open as a set, one after the other.
-use Rattle.std.proofs.Common.{◌≡◌, ◌<◌, ◌≤◌, ℕ, suc, ◌+◌, ◌&&◌, nat_le, true, IsTrue, Option, Some, None, List, [], ◌∷◌, ◌++◌, length, Result, Ok, Err, Vec, inl, inr, refl, ap, sym, ◌∙◌, subst, arith}
+use Rattle.std.proofs.Common.{◌≡◌, ◌<◌, ◌≤◌, ℕ, ◌+◌, ◌&&◌, nat_le, true, IsTrue, Option, Some, None, List, [], ◌∷◌, ◌++◌, length, Result, Ok, Err, Vec, inl, inr, refl, ap, sym, ◌∙◌, arith}
+use Rattle.std.proofs.Common.{rules}
 use Rattle.std.specs.List.{AllZip}
 use Rattle.std.specs.declared.alloc.Global.{Global}
 use Rattle.std.specs.Prelude.{IfOk, IfSome, slice_get}
@@ -37,10 +38,8 @@ get_behind (y ∷ front) x rest = get_behind front x rest
 
 -- one more pair
 pub zip_more : {X Y : Type 0} (R : X → Y → Type 0) (xs : List X) (ys : List Y) (x : X) (y : Y) → AllZip R xs ys → R x y → AllZip R (xs ++ x ∷ []) (ys ++ y ∷ [])
-zip_more R [] [] x y every one = (one, tt)
 zip_more R (a ∷ xs) (b ∷ ys) x y every one = (every.0, zip_more R xs ys x y every.1 one)
-zip_more R [] (b ∷ ys) x y every one = absurd every
-zip_more R (a ∷ xs) [] x y every one = absurd every
+zip_more R xs ys x y every one = search (rules, arith)
 
 -- ---- stores of one geometry
 
@@ -56,15 +55,13 @@ shape_more [] core same like = (core.shape, All-cons (λ c. c.shape ≡ core.sha
 shape_more {D} (first ∷ cores) core same like =
     let here : first.shape ≡ same.0 = same.1 0 first (omega arith) in (
       same.0,
-      All-append (λ (c : CoreState D). c.shape ≡ same.0) (first ∷ cores) (core ∷ []) same.1
-          (All-cons (λ (c : CoreState D). c.shape ≡ same.0) core [] (like ∙ here) (All-nil (λ (c : CoreState D). c.shape ≡ same.0))),
+      All-append (λ (c : CoreState D). c.shape ≡ same.0) (first ∷ cores) (core ∷ []) same.1 (search (arith, All-cons, All-nil)),
     )
 
 -- stores of one geometry have values of one length
 pub shape_alike : {D : Type 0} (cores : List (CoreState D)) → AreOfOneShape cores → AreAlike (λ core. core.shape.value_len) cores
 shape_alike [] same = All-nil (λ core. core.shape.value_len ≡ 0)
-shape_alike {D} (first ∷ cores) same = λ k d within.
-    ap (λ (s : Shape). s.value_len) (same.1 k d within ∙ sym (same.1 0 first (omega arith)))
+shape_alike {D} (first ∷ cores) same = λ k d within. ap (λ (s : Shape). s.value_len) (same.1 k d within ∙ sym (same.1 0 first (omega arith)))
 
 -- ---- why they are refused
 
@@ -86,12 +83,7 @@ module _ {D F : Type 0} (facts : Ghosts D F) where
       → mark.count ≡ length disks → mark.shard ≡ next → mark.set ≡ set → Says facts disk (Marked mark) → EachSays disks set (next + 1)
   says_more disks set next disk mark before there counted numbered named says = λ shard other below at. elim (cases_eq shard next) [
     | inl same ↦
-        let is : disk ≡ other = same_Some disk other (sym there ∙ ap (slice_get disks) (sym same) ∙ at) in
-        let marks : mark ≡ record { count = length disks; shard = shard; set = set } =
-        ap (λ (c : ℕ). record { count = c; shard = mark.shard; set = mark.set }) counted
-        ∙ ap (λ (n : ℕ). record { count = length disks; shard = n; set = mark.set }) (numbered ∙ sym same)
-        ∙ ap (λ (bytes : List ℕ). record { count = length disks; shard = shard; set = bytes }) named in
-        subst (λ (d : D). Says facts d (Marked (record { count = length disks; shard = shard; set = set }))) is (λ h. says h ∙ ap (λ (m : Mark). Marked m) marks)
+        search (arith, same_Some)
     | inr apart ↦ before shard other (omega (arith, below, apart)) at
   ]
 
@@ -119,26 +111,18 @@ module _ {D F : Type 0} (facts : Ghosts D F) where
       → AllZip (λ d (core : CoreState D). Opens facts (facts.content d) core) done cores → shard ≡ length cores
       → ((count : ℕ) (first : D) → IfSome (slice_get cores 0) (Opens facts (facts.content first)) → CausedAt facts count (length cores) first disk left cause)
       → LeavesNoOther (facts.content disk) (facts.content left) → IsRefusedSet facts disks shard left cause
-  refused_next disks [] rest disk left [] shard cause is opened number caused images = record {
-    first = disk;
-    disk = disk;
-    at_first = ap (λ (l : List D). slice_get l 0) (sym is);
-    at_shard = ap (slice_get disks) number ∙ ap (λ (l : List D). slice_get l 0) (sym is);
-    caused = subst (λ (n : ℕ). CausedAt facts (length disks) n disk disk left cause) (sym number) (caused (length disks) disk tt);
-    images = images;
-  }
+  refused_next disks [] rest disk left [] shard cause is opened number caused images =
+      record { first = disk; disk = disk; at_first = rw (← is) refl; at_shard = rw (number, ← is) refl; caused = rw number (caused (length disks) disk tt); images = images }
   refused_next disks (d ∷ done) rest disk left (c ∷ cores) shard cause is opened number caused images =
-      let same : length cores ≡ length done = AllZip-long (λ d (core : CoreState D). Opens facts (facts.content d) core) done cores opened.1 in
-      record {
+      let same : length cores ≡ length done = AllZip-long (λ d (core : CoreState D). Opens facts (facts.content d) core) done cores opened.1 in record {
         first = d;
         disk = disk;
-        at_first = ap (λ (l : List D). slice_get l 0) (sym is);
-        at_shard = ap (slice_get disks) (number ∙ ap suc same) ∙ ap (λ (l : List D). slice_get l (length (d ∷ done))) (sym is) ∙ get_behind (d ∷ done) disk rest;
-        caused = subst (λ (n : ℕ). CausedAt facts (length disks) n d disk left cause) (sym number) (caused (length disks) d opened.0);
+        at_first = rw (← is) refl;
+        at_shard = rw (number, same, ← is) (get_behind (d ∷ done) disk rest);
+        caused = rw number (caused (length disks) d opened.0);
         images = images;
       }
-  refused_next disks [] rest disk left (c ∷ cores) shard cause is opened number caused images = absurd opened
-  refused_next disks (d ∷ done) rest disk left [] shard cause is opened number caused images = absurd opened
+  refused_next disks done rest disk left cores shard cause is opened number caused images = absurd opened
 
   -- one more store is open
   pub open_more : (done : List D) (cores : List (CoreState D)) (disk : D) (core : CoreState D) → AllZip (λ d (c : CoreState D). Opens facts (facts.content d) c) done cores

@@ -1,17 +1,16 @@
 -- The replies of a set of stores are those of one map.
-use Rattle.std.proofs.Common.{◌≡◌, ◌%◌, inl, inr, ℕ, Bool, not, cond, IsTrue, Option, Some, List, [], ◌∷◌, length, set, refl, ap, sym, ◌∙◌, subst, arith}
+use Rattle.std.proofs.Common.{◌≡◌, inl, inr, ℕ, Bool, not, cond, IsTrue, Option, Some, List, [], ◌∷◌, length, set, refl, ap, sym, ◌∙◌, arith, rules}
 use Rattle.std.specs.FinMap.{get}
 use Rattle.std.specs.Prelude.{option_and_then, slice_get}
 use Rattle.std.proofs.lemmas.Bool.{cases_Bool, cases_eq}
 use Rattle.std.proofs.lemmas.List.{length-set}
 use Rattle.std.proofs.lemmas.List.Elements.{All-cons, All-rest}
-use Rattle.std.proofs.lemmas.Option.{none-some, same_Some, slice_get_cases, slice_get_past}
-use Rattle.silt_disk.specs.Numbers.{number_at}
+use Rattle.std.proofs.lemmas.Option.{same_Some, slice_get_cases, slice_get_past}
 use Rattle.silt_disk.specs.declared.disk.Disk.{Ghosts}
 use Rattle.silt_event.specs.Commands.{Map}
 use Rattle.silt_event.specs.Events.{PlainReply, Step, plain}
 use Rattle.silt_event.specs.declared.event.Event.{Event}
-use Rattle.silt_event.specs.declared.event.Event.TheVariants.{Put, Delete, Swap, Flush, Get, Convert, Merge}
+use Rattle.silt_event.specs.declared.event.Event.TheVariants.{Put, Delete, Swap, Flush, Get}
 use Rattle.silt_event.specs.declared.reply.Reply.{Reply}
 use Rattle.silt_frame.specs.declared.key.Key.{Key}
 use Rattle.silt_store_set.specs.CoreState.{CoreState, DoesPlain, map_of}
@@ -19,7 +18,7 @@ use Rattle.silt_store_set.proofs.Runs.{does_step}
 use Rattle.silt_shards.specs.Routing.{shard_of}
 use Rattle.silt_shards.specs.Sets.{DoesAt, FlushesEach, SetDoes, acknowledges, joined}
 use Rattle.silt_shards.specs.Stores.{AreHonest, IsMapOf, SetMapLaw, SetStep, value_in}
-use Rattle.silt_shards.proofs.Joins.{first_refusal, joins, joins_all, joins_one}
+use Rattle.silt_shards.proofs.Joins.{first_refusal, joins}
 use Rattle.silt_shards.proofs.KeySteps.{KeyStep, delete_step, flush_same, flush_step, get_step, put_step, swap_step}
 use Rattle.silt_shards.proofs.Lists.{all_at, all_set, get_set_other, get_set_same}
 use Rattle.silt_shards.proofs.Projections.{flush_at, flush_length}
@@ -42,16 +41,14 @@ module _ {D F : Type 0} (facts : Ghosts D F) where
       let only = shard_of (length old) key in
       let own = shard_of (length old) q in
       let after = does.1 in
-      let moved : value_in new q ≡ found_in (set old only after) (length old) q =
-      ap (λ (l : List (CoreState D)). value_in l q) does.4 ∙ ap (λ (n : ℕ). found_in (set old only after) n q) (length-set old only after) in
+      let moved : value_in new q ≡ found_in (set old only after) (length old) q = search (arith, length-set) in
       elim (cases_eq only own) [
         | inl same ↦
             let there : slice_get old own ≡ Some does.0 = ap (slice_get old) (sym same) ∙ does.2 in
             let now : slice_get (set old only after) own ≡ Some after = ap (λ (i : ℕ). slice_get (set old i after) own) same ∙ get_set_same old own does.0 after there in
-            k.alike.same q (value_at old does.0 values q is there) ∙ sym (moved ∙ ap (option_and_then (λ (c : CoreState D). get (map_of c) q.0)) now)
+            search (arith, k.alike.same)
         | inr away ↦
-            k.alike.other q (λ e. away (ap (λ (bytes : List ℕ). number_at 4 4 bytes % length old) (sym e))) ∙ is q
-            ∙ sym (moved ∙ ap (option_and_then (λ (c : CoreState D). get (map_of c) q.0)) (get_set_other old only own after away))
+            search (arith, get_set_other, k.alike.other)
       ]
 
   -- the map after an event
@@ -68,9 +65,8 @@ module _ {D F : Type 0} (facts : Ghosts D F) where
 
   honest_at : (only : ℕ) (old new : List (CoreState D)) (event : Event) (reply : PlainReply) → AreHonest facts old → DoesAt (DoesPlain facts) only old new event reply → AreHonest facts new
   honest_at only old new event reply honest does =
-      let h = all_at (λ (core : CoreState D). IsTrue (facts.content core.disk).honest) old only does.0 honest does.2 in
-      let still : IsTrue (facts.content (does.1).disk).honest = (does.3).1.disk.honest ∙ h in
-      subst (AreHonest facts) (sym does.4) (all_set (λ (core : CoreState D). IsTrue (facts.content core.disk).honest) old only does.1 honest still)
+      let honest_one : CoreState D → Type 0 = λ core. IsTrue (facts.content core.disk).honest in
+      rw does.4 (all_set honest_one old only does.1 honest (does.3.1.disk.honest ∙ all_at honest_one old only does.0 honest does.2))
 
   keyed : (old new : List (CoreState D)) (event : Event) (key : Key) (reply : PlainReply) (values : Map) → AreHonest facts old → IsMapOf old values
       → (does : DoesAt (DoesPlain facts) (shard_of (length old) key) old new event reply)
@@ -78,23 +74,16 @@ module _ {D F : Type 0} (facts : Ghosts D F) where
       → MapsTo new values event reply
   keyed old new event key reply values honest is does step =
       let h = all_at (λ (core : CoreState D). IsTrue (facts.content core.disk).honest) old (shard_of (length old) key) does.0 honest does.2 in
-      let own = does.3 in
-      let k : KeyStep key event reply values (map_of does.0) (map_of does.1) =
-      subst (λ (r : PlainReply). KeyStep key event r values (map_of does.0) (map_of does.1)) (sym own.2)
-      (step own.0 (value_at old does.0 values key is does.2) (shard_step does.0 does.1 event reply h own)) in
+      let k = rw (← does.3.2) at (step does.3.0 (value_at old does.0 values key is does.2) (shard_step does.0 does.1 event reply h does.3)) in
       record { to = k.to; is = keyed_map old new event key reply values is does k; step = k.step; honest = honest_at (shard_of (length old) key) old new event reply honest does }
 
   -- ---- a flush
 
   flush_honest : (old : List (CoreState D)) (parts : List PlainReply) (new : List (CoreState D)) → FlushesEach (DoesPlain facts) old parts new → AreHonest facts old → AreHonest facts new
-  flush_honest [] [] [] flushes honest = honest
   flush_honest (before ∷ old) (part ∷ parts) (after ∷ new) flushes honest =
       All-cons (λ (core : CoreState D). IsTrue (facts.content core.disk).honest) after new ((flushes.0).1.disk.honest ∙ honest 0 before (omega arith))
       (flush_honest old parts new flushes.1 (All-rest (λ (core : CoreState D). IsTrue (facts.content core.disk).honest) before old (before ∷ old) refl honest))
-  flush_honest [] [] (after ∷ new) flushes honest = absurd flushes
-  flush_honest [] (part ∷ parts) new flushes honest = absurd flushes
-  flush_honest (before ∷ old) [] new flushes honest = absurd flushes
-  flush_honest (before ∷ old) (part ∷ parts) [] flushes honest = absurd flushes
+  flush_honest old parts new flushes honest = search (rules, arith)
 
   flush_map : (old : List (CoreState D)) (parts : List PlainReply) (new : List (CoreState D)) (values : Map) → FlushesEach (DoesPlain facts) old parts new → AreHonest facts old
       → IsMapOf old values → IsMapOf new values
@@ -107,67 +96,46 @@ module _ {D F : Type 0} (facts : Ghosts D F) where
             let before = here.0 in
             let there : slice_get old own ≡ Some before = here.2 in
             let at = flush_at (DoesPlain facts) old parts new flushes own before there in
-            let h = all_at (λ (core : CoreState D). IsTrue (facts.content core.disk).honest) old own before honest there in
-            let same : map_of at.after ≡ map_of before = flush_same (map_of before) (map_of before) (map_of at.after) (at.does).0 (shard_step before at.after Flush at.part h at.does) in
-            value_at old before values q is there ∙ ap (λ (m : Map). get m q.0) (sym same) ∙ sym (moved ∙ ap (option_and_then (λ (c : CoreState D). get (map_of c) q.0)) at.there)
+            search (arith, all_at, flush_same, shard_step)
         | inr past ↦
-            is q ∙ ap (option_and_then (λ (c : CoreState D). get (map_of c) q.0)) (past.1 ∙ sym (slice_get_past new own (omega (arith, len, past.0)))) ∙ sym moved
+            search (arith, slice_get_past)
       ]
 
   -- the first refusal of a flush is one that any map may give
   flush_first : (old : List (CoreState D)) (parts : List PlainReply) (new : List (CoreState D)) (values : Map) (refusal : PlainReply) → FlushesEach (DoesPlain facts) old parts new
       → AreHonest facts old → first_refusal parts ≡ Some refusal → Step values Flush refusal values
-  flush_first [] [] [] values refusal flushes honest found = absurd (none-some refusal found)
   flush_first (before ∷ old) (part ∷ parts) (after ∷ new) values refusal flushes honest found = elim (cases_Bool (acknowledges part)) [
     | inl acknowledged ↦
         flush_first old parts new values refusal flushes.1 (All-rest (λ (core : CoreState D). IsTrue (facts.content core.disk).honest) before old (before ∷ old) refl honest)
         (sym (ap (λ (b : Bool). cond (not b) (Some part) (first_refusal parts)) acknowledged) ∙ found)
     | inr refused ↦
-        let is : part ≡ refusal = same_Some part refusal (sym (ap (λ (b : Bool). cond (not b) (Some part) (first_refusal parts)) refused) ∙ found) in
-        let own = flushes.0 in
-        subst (λ (r : PlainReply). Step values Flush r values) (sym own.2 ∙ is)
-        (flush_step values (map_of before) (map_of after) own.0 (shard_step before after Flush part (honest 0 before (omega arith)) own))
+        search (arith, same_Some, flush_step, shard_step)
   ]
-  flush_first [] [] (after ∷ new) values refusal flushes honest found = absurd flushes
-  flush_first [] (part ∷ parts) new values refusal flushes honest found = absurd flushes
-  flush_first (before ∷ old) [] new values refusal flushes honest found = absurd flushes
-  flush_first (before ∷ old) (part ∷ parts) [] values refusal flushes honest found = absurd flushes
+  flush_first old parts new values refusal flushes honest found = search rules
 
   flush_joined : (old : List (CoreState D)) (parts : List PlainReply) (new : List (CoreState D)) (values : Map) → FlushesEach (DoesPlain facts) old parts new → AreHonest facts old
       → Step values Flush (joined parts) values
-  flush_joined old parts new values flushes honest = elim (joins parts) [
-    | joins_all absent every same ↦ subst (λ (r : PlainReply). Step values Flush r values) (sym same) refl
-    | joins_one refusal present not_one same ↦ subst (λ (r : PlainReply). Step values Flush r values) (sym same) (flush_first old parts new values refusal flushes honest present)
-  ]
+  flush_joined old parts new values flushes honest = search (arith, joins, flush_first)
 
   -- ---- any event
 
   maps_to : (old new : List (CoreState D)) (event : Event) (reply : PlainReply) (values : Map) → AreHonest facts old → IsMapOf old values → SetDoes (DoesPlain facts) old new event reply
       → MapsTo new values event reply
-  maps_to old new (Put key value) reply values honest is does =
-      keyed old new (Put key value) key reply values honest is does (λ told here step. put_step values (map_of does.0) (map_of does.1) key value told step)
-  maps_to old new (Delete key) reply values honest is does =
-      keyed old new (Delete key) key reply values honest is does (λ told here step. delete_step values (map_of does.0) (map_of does.1) key told step)
-  maps_to old new (Swap key expected value) reply values honest is does =
-      keyed old new (Swap key expected value) key reply values honest is does (λ told here step. swap_step values (map_of does.0) (map_of does.1) key expected value told here step)
-  maps_to old new (Get key) reply values honest is does =
-      keyed old new (Get key) key reply values honest is does (λ told here step. get_step values (map_of does.0) (map_of does.1) key told here step)
+  maps_to old new (Put key value) reply values honest is does = keyed old new _ key reply values honest is does (λ told here step. put_step values _ _ key value told step)
+  maps_to old new (Delete key) reply values honest is does = keyed old new _ key reply values honest is does (λ told here step. delete_step values _ _ key told step)
+  maps_to old new (Swap key expected value) reply values honest is does = keyed old new _ key reply values honest is does (λ told here step. swap_step values _ _ key _ value told here step)
+  maps_to old new (Get key) reply values honest is does = keyed old new _ key reply values honest is does (λ told here step. get_step values _ _ key told here step)
   maps_to old new Flush reply values honest is does = record {
     to = values;
     is = flush_map old does.0 new values does.1 honest is;
-    step = subst (λ (r : PlainReply). Step values Flush r values) (sym does.2) (flush_joined old does.0 new values does.1 honest);
+    step = rw (← does.2) at (flush_joined old does.0 new values does.1 honest);
     honest = flush_honest old does.0 new does.1 honest;
   }
-  maps_to old new Convert reply values honest is does =
-      record { to = values; is = subst (λ (l : List (CoreState D)). IsMapOf l values) (sym does.0) is; step = (does.1, refl); honest = subst (AreHonest facts) (sym does.0) honest }
-  maps_to old new Merge reply values honest is does =
-      record { to = values; is = subst (λ (l : List (CoreState D)). IsMapOf l values) (sym does.0) is; step = (does.1, refl); honest = subst (AreHonest facts) (sym does.0) honest }
+  maps_to old new event reply values honest is does = record { to = values; is = rw does.0 is; step = (does.1, refl); honest = rw does.0 honest }
 
   pub set_map_law : SetMapLaw facts
-  set_map_law old new [] [] values honest is runs = (values, subst (λ (l : List (CoreState D)). IsMapOf l values) (sym runs) is, refl)
+  set_map_law old new [] [] values honest is runs = (values, rw (← runs) at is, refl)
   set_map_law old new (event ∷ events) (reply ∷ replies) values honest is runs =
       let next = maps_to old runs.0 event reply values honest is runs.1 in
-      let rest = set_map_law runs.0 new events replies next.to next.honest next.is runs.2 in
-      (rest.0, rest.1, (next.to, next.step, rest.2))
-  set_map_law old new [] (reply ∷ replies) values honest is runs = absurd runs
-  set_map_law old new (event ∷ events) [] values honest is runs = absurd runs
+      search (arith, set_map_law runs.0 new events replies next.to next.honest next.is runs.2)
+  set_map_law old new h2 h3 values honest is runs = absurd runs

@@ -1,5 +1,5 @@
 -- Runs and lives of a set of stores are runs and lives of each shard's store.
-use Rattle.std.proofs.Common.{◌≡◌, ℕ, zero, suc, ◌+◌, false, IsTrue, Some, List, [], ◌∷◌, ◌++◌, length, map, refl, ap, sym, ◌∙◌, subst, arith}
+use Rattle.std.proofs.Common.{◌≡◌, ℕ, zero, suc, ◌+◌, false, IsTrue, Some, List, [], ◌∷◌, length, map, refl, ap, ◌∙◌, subst, arith, rules}
 use Rattle.std.specs.List.{AllZip}
 use Rattle.std.specs.Prelude.{slice_get}
 use Rattle.std.proofs.lemmas.Option.{none-some, same_Some}
@@ -8,8 +8,8 @@ use Rattle.silt_disk.specs.Disk.{Restarts}
 use Rattle.silt_disk.specs.Layout.{Shape}
 use Rattle.silt_disk.specs.declared.disk.Disk.{Ghosts}
 use Rattle.silt_disk.proofs.Images.{left_at_rest, shown_left}
-use Rattle.silt_event.specs.Commands.{Command, Map, map_after}
-use Rattle.silt_event.specs.Events.{AnswersEach, Legal, PlainReply, accepted_commands, plain}
+use Rattle.silt_event.specs.Commands.{Map, map_after}
+use Rattle.silt_event.specs.Events.{AnswersEach, Legal, PlainReply, plain}
 use Rattle.silt_event.specs.declared.event.Event.{Event}
 use Rattle.silt_event.specs.declared.reply.Reply.{Reply}
 use Rattle.silt_image.specs.Meaning.{StandsFor}
@@ -19,8 +19,7 @@ use Rattle.silt_store_set.specs.Living.{StartsFrom}
 use Rattle.silt_store_set.proofs.Keeps.{keeps_runs, nines}
 use Rattle.silt_store_set.proofs.Runs.{legal_runs}
 use Rattle.silt_shards.specs.Routing.{routed}
-use Rattle.silt_shards.specs.SetLaws.{AreParts}
-use Rattle.silt_shards.specs.Stores.{SetLivesLaw, SetRuns, ShardLife, ShardLives, ShardRuns, ShardRunsLaw}
+use Rattle.silt_shards.specs.Stores.{SetLivesLaw, SetRuns, ShardLife, ShardRuns, ShardRunsLaw, ShardLives}
 use Rattle.silt_shards.proofs.Projections.{projected, set_length}
 
 -- the partner of an item
@@ -30,13 +29,10 @@ pub record Partner {X Y : Type 0} (R : X → Y → Type 0) (ys : List Y) (i : �
   pub related : R x other
 
 zip_at : {X Y : Type 0} (R : X → Y → Type 0) (xs : List X) (ys : List Y) (i : ℕ) (x : X) → AllZip R xs ys → slice_get xs i ≡ Some x → Partner R ys i x
+zip_at R (a ∷ xs) (b ∷ ys) zero x every there = search (arith, same_Some)
+zip_at R (a ∷ xs) (b ∷ ys) (suc i) x every there = search (arith, zip_at R xs ys i x every.1 there)
 zip_at R [] [] i x every there = absurd (none-some x there)
-zip_at {X} {Y} R (a ∷ xs) (b ∷ ys) zero x every there = record { other = b; there = refl; related = subst (λ (z : X). R z b) (same_Some a x there) every.0 }
-zip_at R (a ∷ xs) (b ∷ ys) (suc i) x every there =
-    let rest = zip_at R xs ys i x every.1 there in
-    record { other = rest.other; there = rest.there; related = rest.related }
-zip_at R [] (b ∷ ys) i x every there = absurd every
-zip_at R (a ∷ xs) [] i x every there = absurd every
+zip_at R xs ys i x every there = absurd every
 
 module _ {D F : Type 0} (facts : Ghosts D F) where
   -- ---- runs
@@ -50,47 +46,32 @@ module _ {D F : Type 0} (facts : Ghosts D F) where
   runs_told : (old new : CoreState D) (events : List Event) (replies : List PlainReply) → AnswersEach (DoesPlain facts) old events replies new → Told old new events replies
   runs_told old new [] [] runs = record { told = []; runs = runs; are = refl }
   runs_told old new (event ∷ events) (reply ∷ replies) runs =
-      let rest = runs_told runs.0 new events replies runs.2 in
-      let first = runs.1 in
-      record {
-        told = first.0 ∷ rest.told;
-        runs = (runs.0, first.1, rest.runs);
-        are = ap (λ (r : PlainReply). r ∷ map plain rest.told) (sym first.2) ∙ ap (λ (rs : List PlainReply). reply ∷ rs) rest.are;
-      }
-  runs_told old new [] (reply ∷ replies) runs = absurd runs
-  runs_told old new (event ∷ events) [] runs = absurd runs
+      let rest = runs_told runs.0 new events replies runs.2 in record { told = runs.1.0 ∷ rest.told; runs = (runs.0, runs.1.1, rest.runs); are = search arith }
+  runs_told old new events replies runs = absurd runs
 
   -- the disk stays honest or not
   runs_honest : (old new : CoreState D) (events : List Event) (replies : List (Reply F)) → Runs facts old events replies new → (facts.content new.disk).honest ≡ (facts.content old.disk).honest
-  runs_honest old new [] [] runs = ap (λ (c : CoreState D). (facts.content c.disk).honest) runs
-  runs_honest old new (event ∷ events) (reply ∷ replies) runs = runs_honest runs.0 new events replies runs.2 ∙ runs.1.disk.honest
-  runs_honest old new [] (reply ∷ replies) runs = absurd runs
-  runs_honest old new (event ∷ events) [] runs = absurd runs
+  runs_honest old new (event ∷ events) (reply ∷ replies) runs = search (arith, runs_honest runs.0 new events replies runs.2)
+  runs_honest old new events replies runs = search (rules, arith)
 
   -- as many shards as before
   set_len : (old new : List (CoreState D)) (events : List Event) (replies : List PlainReply) → SetRuns facts old events replies new → length new ≡ length old
   set_len old new [] [] runs = ap length runs
   set_len old new (event ∷ events) (reply ∷ replies) runs = set_len runs.0 new events replies runs.2 ∙ set_length (DoesPlain facts) old runs.0 event reply runs.1
-  set_len old new [] (reply ∷ replies) runs = absurd runs
-  set_len old new (event ∷ events) [] runs = absurd runs
+  set_len old new events replies runs = absurd runs
 
   pub shard_runs_law : ShardRunsLaw facts
   shard_runs_law old new events replies runs shard before there =
       let at = projected (DoesPlain facts) old new events replies runs shard before there in
-      let after = at.0 in
-      let does = at.2 in
-      let mine = runs_told before after (routed (length old) shard events) does.own does.runs in
-      let own_events = routed (length old) shard events in (
-        after,
+      let mine = runs_told before at.0 (routed (length old) shard events) at.2.own at.2.runs in (
+        at.0,
         at.1,
         record {
           own = mine.told;
           runs = mine.runs;
-          parts = subst (AreParts (length old) shard events replies) (sym mine.are) does.parts;
-          legal = λ h. legal_runs facts before after own_events mine.told h mine.runs;
-          kept = λ working safe. record {
-            each = λ h image left. keeps_runs facts before after own_events mine.told working safe mine.runs (sym (runs_honest before after own_events mine.told mine.runs) ∙ h) image left;
-          };
+          parts = rw (← mine.are) at at.2.parts;
+          legal = λ h. legal_runs facts before at.0 _ mine.told h mine.runs;
+          kept = λ working safe. record { each = search (arith, keeps_runs, runs_honest) };
         },
       )
 
@@ -129,7 +110,7 @@ module _ {D F : Type 0} (facts : Ghosts D F) where
                 (subst (λ (c : ℕ). Legal c (map_of core) mine run.own after.count (map_of after)) opens.count (run.legal here));
             kept = kept.0;
             keeps = record {
-              begins = record { rest = kept.1.begins.rest; is = kept.1.begins.is ∙ ap (λ (cs : List Command). cs ++ accepted_commands mine run.own) none_wait };
+              begins = search arith;
               acknowledged = let settled : 0 + length core.waiting ≡ core.count = omega (arith, ap length none_wait, opens.count) in omega (arith, kept.1.acknowledged 0 settled);
             };
             fails = nines facts core after mine run.own false opens.working run.runs;
@@ -137,32 +118,19 @@ module _ {D F : Type 0} (facts : Ghosts D F) where
           },
           record {
             honest = restarts.honest ∙ there;
-            safe = record {
-              each = λ honest image left_image. subst (IsSafe value_len to) (sym (left_at_rest restarts.rests honest image left_image)) (record {
-                good = stands.good;
-                has_len = ap (λ (s : Shape). s.value_len) stands.has_shape ∙ opened_len core opens;
-                has_map = stands.has_map;
-              });
-            };
+            safe = record { each = search (arith, left_at_rest, opened_len) };
           },
         )
 
   pub set_lives_law : SetLivesLaw facts
-  set_lives_law disks left [] lives shard disk there value_len values starts =
-      (disk, ap (λ (l : List D). slice_get l shard) lives ∙ there, (values, refl, starts))
+  set_lives_law disks left [] lives shard disk there value_len values starts = (disk, rw lives there, (values, refl, starts))
   set_lives_law disks left (life ∷ lives) all shard disk there value_len values starts =
-      let between = all.0 in
       let once = all.1 in
-      let opened = zip_at (λ (d : D) (core : CoreState D). Opens facts (facts.content d) core) disks once.first shard disk once.opens there in
-      let core = opened.other in
-      let ran = shard_runs_law once.first once.last life.0 life.1 once.runs shard core opened.there in
-      let after = ran.0 in
-      let stopped = zip_at (λ (c : CoreState D) (d : D). Restarts (facts.content c.disk) (facts.content d)) once.last between shard after once.stops ran.1 in
-      let len : length once.first ≡ length disks = AllZip-long (λ (d : D) (c : CoreState D). Opens facts (facts.content d) c) disks once.first once.opens in
-      let run : ShardRuns facts (length disks) shard core after life.0 life.1 = subst (λ (n : ℕ). ShardRuns facts n shard core after life.0 life.1) len ran.2 in
-      let one = shard_life value_len values disk starts (length disks) shard life.0 life.1 core after stopped.other opened.related run stopped.related in
-      let rest = set_lives_law between left lives all.2 shard stopped.other stopped.there value_len one.0 one.2 in
-      let same : length between ≡ length disks =
-      AllZip-long (λ (c : CoreState D) (d : D). Restarts (facts.content c.disk) (facts.content d)) once.last between once.stops ∙ set_len once.first once.last life.0 life.1 once.runs ∙ len in
-      let later = rest.2 in
-      (rest.0, rest.1, (later.0, (one.0, one.1, subst (λ (n : ℕ). ShardLives F n shard one.0 lives later.0) same later.1), later.2))
+      let opened = zip_at _ disks once.first shard disk once.opens there in
+      let ran = shard_runs_law once.first once.last life.0 life.1 once.runs shard opened.other opened.there in
+      let stopped = zip_at _ once.last all.0 shard ran.0 once.stops ran.1 in
+      let len : length once.first ≡ length disks = AllZip-long _ disks once.first once.opens in
+      let one = shard_life value_len values disk starts (length disks) shard life.0 life.1 opened.other ran.0 stopped.other opened.related (rw len at ran.2) stopped.related in
+      let rest = set_lives_law all.0 left lives all.2 shard stopped.other stopped.there value_len one.0 one.2 in
+      let same : length all.0 ≡ length disks = AllZip-long _ once.last all.0 once.stops ∙ set_len once.first once.last life.0 life.1 once.runs ∙ len in
+      (rest.0, rest.1, (rest.2.0, (one.0, one.1, subst (λ (n : ℕ). ShardLives F n shard one.0 lives rest.2.0) same rest.2.1), rest.2.2))

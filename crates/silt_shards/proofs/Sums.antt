@@ -1,5 +1,5 @@
 -- The facts of a set, one shard after the other.
-use Rattle.std.proofs.Common.{◌≡◌, ◌<◌, ◌≤◌, ◌+◌, ℕ, suc, List, ◌∷◌, length, drop, get_or, inl, inr, Option, Some, None, refl, sym, ap, subst, ◌∙◌, arith}
+use Rattle.std.proofs.Common.{◌≡◌, ◌<◌, ◌≤◌, ◌+◌, ℕ, suc, List, ◌∷◌, length, drop, get_or, inl, Option, Some, None, refl, sym, ap, subst, ◌∙◌, arith}
 use Rattle.std.proofs.Math.ListN.{drop_of_length-le}
 use Rattle.std.proofs.Math.Seq.{drop-cons}
 use Rattle.silt_event.specs.declared.facts.Facts.{Facts}
@@ -15,14 +15,12 @@ module _ {A : Type 0} (informs : A → Option Facts → Type 0) (shards : List A
   -- it adds its facts
   pub adds_one : (index : ℕ) (shard : A) (sum part : Facts) (facts : Option Facts) → index < length shards → shard ≡ get_or shards index shard
       → informs shard (Some part) → AddsFacts informs (plus sum part) (drop (index + 1) shards) facts → AddsFacts informs sum (drop index shards) facts
-  adds_one index shard sum part facts within is gives rest =
-      subst (λ l. AddsFacts informs sum l facts) (sym (rest_cut index shard within is)) (inr (part, gives, rest))
+  adds_one index shard sum part facts within is gives rest = search (arith, rest_cut)
 
   -- it gives none
   pub adds_none : (index : ℕ) (shard : A) (sum : Facts) → index < length shards → shard ≡ get_or shards index shard
       → informs shard None → AddsFacts informs sum (drop index shards) None
-  adds_none index shard sum within is gives =
-      subst (λ l. AddsFacts informs sum l None) (sym (rest_cut index shard within is)) (inl (gives, refl))
+  adds_none index shard sum within is gives = subst (λ l. AddsFacts informs sum l None) (sym (rest_cut index shard within is)) (inl (gives, refl))
 
   -- there are no more shards
   pub adds_end : (index : ℕ) (sum : Facts) → length shards ≤ index → AddsFacts informs sum (drop index shards) (Some sum)

@@ -27,13 +27,11 @@ tie_same q key tie = sym ((bytes_eq-Decides key q).0 (sym (same_key q key) ∙ t
 -- the first entry of a key in two lists
 first_append : (q : List ℕ) (es more : Entries) → first_of q (es ++ more) ≡ option_or (first_of q es) (first_of q more)
 first_append q [] more = refl
-first_append q (e ∷ es) more = elim (cases_Bool (eq_by_cmp (slice_cmp nat_cmp) q e.0)) [
-  | inl tie ↦
-      ap (λ (b : Bool). cond b (Some e.1) (first_of q (es ++ more))) tie ∙ sym (ap (λ (b : Bool). option_or (cond b (Some e.1) (first_of q es)) (first_of q more)) tie)
-  | inr apart ↦
-      ap (λ (b : Bool). cond b (Some e.1) (first_of q (es ++ more))) apart ∙ first_append q es more
-      ∙ sym (ap (λ (b : Bool). option_or (cond b (Some e.1) (first_of q es)) (first_of q more)) apart)
-]
+first_append q (e ∷ es) more = search (arith, first_append q es more, cases_Bool)
+
+-- other keys do not tie
+other_tie : (q key : List ℕ) → (q ≡ key → ⊥) → eq_by_cmp (slice_cmp nat_cmp) q key ≡ false
+other_tie q key differ = elim (cases_Bool (eq_by_cmp (slice_cmp nat_cmp) q key)) [ inl tie ↦ absurd (differ (tie_same q key tie)) | inr apart ↦ apart ]
 
 module _ (test : List ℕ → Bool) where
   -- the entries whose keys pass
@@ -44,36 +42,17 @@ module _ (test : List ℕ → Bool) where
   first_passing : (q : List ℕ) (es : Entries) → test q ≡ true → first_of q (passing es) ≡ first_of q es
   first_passing q [] passes = refl
   first_passing q (e ∷ es) passes = elim (cases_Bool (test e.0)) [
-    | inl stays ↦
-        ap (λ (b : Bool). first_of q (cond b (e ∷ passing es) (passing es))) stays
-        ∙ ap (cond (eq_by_cmp (slice_cmp nat_cmp) q e.0) (Some e.1)) (first_passing q es passes)
-    | inr goes ↦
-        ap (λ (b : Bool). first_of q (cond b (e ∷ passing es) (passing es))) goes ∙ first_passing q es passes
-        ∙ sym (ap (λ (b : Bool). cond b (Some e.1) (first_of q es)) (other_tie q e.0 passes goes))
+    | inl stays ↦ rw stays (ap (cond (eq_by_cmp (slice_cmp nat_cmp) q e.0) (Some e.1)) (first_passing q es passes))
+    | inr goes ↦ cc (first_passing q es passes, other_tie q e.0 (λ same. let no : true ≡ false = sym passes ∙ ap test same ∙ goes in cc))
   ]
-    where
-      other_tie : (q key : List ℕ) → test q ≡ true → test key ≡ false → eq_by_cmp (slice_cmp nat_cmp) q key ≡ false
-      other_tie q key passes goes = elim (cases_Bool (eq_by_cmp (slice_cmp nat_cmp) q key)) [
-        | inl tie ↦ absurd (let same : test q ≡ test key = ap test (tie_same q key tie) in cc)
-        | inr apart ↦ apart
-      ]
 
   -- a key that does not has none
   first_failing : (q : List ℕ) (es : Entries) → test q ≡ false → first_of q (passing es) ≡ None
   first_failing q [] fails = refl
   first_failing q (e ∷ es) fails = elim (cases_Bool (test e.0)) [
-    | inl stays ↦
-        ap (λ (b : Bool). first_of q (cond b (e ∷ passing es) (passing es))) stays
-        ∙ ap (λ (b : Bool). cond b (Some e.1) (first_of q (passing es))) (other_tie q e.0 fails stays) ∙ first_failing q es fails
-    | inr goes ↦
-        ap (λ (b : Bool). first_of q (cond b (e ∷ passing es) (passing es))) goes ∙ first_failing q es fails
+    | inl stays ↦ cc (first_failing q es fails, other_tie q e.0 (λ same. let no : false ≡ true = sym fails ∙ ap test same ∙ stays in cc))
+    | inr goes ↦ cc (first_failing q es fails)
   ]
-    where
-      other_tie : (q key : List ℕ) → test q ≡ false → test key ≡ true → eq_by_cmp (slice_cmp nat_cmp) q key ≡ false
-      other_tie q key fails stays = elim (cases_Bool (eq_by_cmp (slice_cmp nat_cmp) q key)) [
-        | inl tie ↦ absurd (let same : test q ≡ test key = ap test (tie_same q key tie) in cc)
-        | inr apart ↦ apart
-      ]
 
 module _ {C : Type 0} (map_in : C → Map) (count : ℕ) where
   -- the shard of a key's bytes
@@ -88,11 +67,7 @@ module _ {C : Type 0} (map_in : C → Map) (count : ℕ) where
   -- a key of an earlier shard has no entry
   first_past : (q : List ℕ) (next : ℕ) (cores : List C) → shard_in q < next → first_of q (own_entries next cores) ≡ None
   first_past q next [] past = refl
-  first_past q next (core ∷ cores) past =
-      let other : (shard_in q ≡ next) → ⊥ = λ same. absurd (omega (arith, past, same)) in
-      first_append q (passing (λ k. shard_in k == next) (entries (map_in core))) (own_entries (suc next) cores)
-      ∙ ap (λ o. option_or o (first_of q (own_entries (suc next) cores))) (first_failing (λ k. shard_in k == next) q (entries (map_in core)) (ne_eqb (shard_in q) next other))
-      ∙ first_past q (suc next) cores (omega (arith, past))
+  first_past q next (core ∷ cores) past = search (arith, first_past q (suc next) cores, first_append, first_failing, ne_eqb)
 
   -- nothing behind an entry
   or_none : (o : Option (List ℕ)) → option_or o None ≡ o
@@ -103,19 +78,8 @@ module _ {C : Type 0} (map_in : C → Map) (count : ℕ) where
   first_own : (q : List ℕ) (next ahead : ℕ) (cores : List C) → shard_in q ≡ next + ahead
       → first_of q (own_entries next cores) ≡ option_and_then (λ (core : C). get (map_in core) q) (slice_get cores ahead)
   first_own q next ahead [] is = refl
-  first_own q next zero (core ∷ cores) is =
-      let same : shard_in q ≡ next = omega (arith, is) in
-      let later : shard_in q < suc next = omega (arith, same) in
-      first_append q (passing (λ k. shard_in k == next) (entries (map_in core))) (own_entries (suc next) cores)
-      ∙ ap (option_or (first_of q (passing (λ k. shard_in k == next) (entries (map_in core))))) (first_past q (suc next) cores later)
-      ∙ or_none (first_of q (passing (λ k. shard_in k == next) (entries (map_in core))))
-      ∙ first_passing (λ k. shard_in k == next) q (entries (map_in core)) (eq-eqb (shard_in q) next same)
-      ∙ sym (get-entries (map_in core) q)
-  first_own q next (suc ahead) (core ∷ cores) is =
-      let other : (shard_in q ≡ next) → ⊥ = λ same. absurd (omega (arith, is, same)) in
-      first_append q (passing (λ k. shard_in k == next) (entries (map_in core))) (own_entries (suc next) cores)
-      ∙ ap (λ o. option_or o (first_of q (own_entries (suc next) cores))) (first_failing (λ k. shard_in k == next) q (entries (map_in core)) (ne_eqb (shard_in q) next other))
-      ∙ first_own q (suc next) ahead cores (omega (arith, is))
+  first_own q next zero (core ∷ cores) is = search (arith, first_append, first_past, or_none, first_passing, eq-eqb, get-entries)
+  first_own q next (suc ahead) (core ∷ cores) is = search (arith, first_append, first_failing, ne_eqb, first_own q (suc next) ahead cores)
 
   -- the map of all own entries
   pub whole_map : List C → Map

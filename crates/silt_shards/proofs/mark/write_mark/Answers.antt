@@ -4,25 +4,21 @@ use Rattle.silt_shards.proofs.Marks.{left_but_for_mark, left_marked_or_not, stan
 use Rattle.silt_shards.proofs.mark.write_mark.Goals as goal
 
 pub returns-in_err-close_mark-clause-stopped : goal.returns-in_err-close_mark-clause-stopped
-returns-in_err-close_mark-clause-stopped g c = left_but_for_mark c.args.mark.now (g.D.Disk.content c.args.disk.now) (g.D.Disk.content c.close_mark.new.disk) c.close_mark.ensures.wrote.changes
+returns-in_err-close_mark-clause-stopped g c = left_but_for_mark _ _ _ c.close_mark.ensures.wrote.changes
 
 pub returns-in_err-write_behind-clause-stopped : goal.returns-in_err-write_behind-clause-stopped
-returns-in_err-write_behind-clause-stopped g c =
-    left_marked_or_not c.args.mark.now (g.D.Disk.content c.args.disk.now) (g.D.Disk.content c.write_behind.new.disk) c.write_behind.ensures.stopped
+returns-in_err-write_behind-clause-stopped g c = left_marked_or_not _ _ _ c.write_behind.ensures.stopped
 
 pub returns-in_err-write_behind-clause-stands : goal.returns-in_err-write_behind-clause-stands
 returns-in_err-write_behind-clause-stands g c = λ shape map stands.
-    stands_stays 2048 37 (g.D.Disk.content c.close_mark.new.disk) (g.D.Disk.content c.write_behind.new.disk) c.write_behind.ensures.wrote.changes (omega arith) (omega arith) shape map
-    (c.close_mark.ensures.stands shape map stands)
+    stands_stays 2048 37 _ _ c.write_behind.ensures.wrote.changes (omega arith) (omega arith) shape map (c.close_mark.ensures.stands shape map stands)
 
 pub returns-clause-stopped : goal.returns-clause-stopped
-returns-clause-stopped g c =
-    left_marked_or_not c.args.mark.now (g.D.Disk.content c.args.disk.now) (g.D.Disk.content c.write_behind.new.disk) c.write_behind.ensures.stopped
+returns-clause-stopped g c = left_marked_or_not _ _ _ c.write_behind.ensures.stopped
 
 pub returns-clause-stands : goal.returns-clause-stands
 returns-clause-stands g c = λ shape map stands.
-    stands_stays 2048 37 (g.D.Disk.content c.close_mark.new.disk) (g.D.Disk.content c.write_behind.new.disk) c.write_behind.ensures.wrote.changes (omega arith) (omega arith) shape map
-    (c.close_mark.ensures.stands shape map stands)
+    stands_stays 2048 37 _ _ c.write_behind.ensures.wrote.changes (omega arith) (omega arith) shape map (c.close_mark.ensures.stands shape map stands)
 
 pub returns-in_err-close_mark-clause-wrote : goal.returns-in_err-close_mark-clause-wrote
 returns-in_err-close_mark-clause-wrote g c = wrote_err c.in_err-close_mark.was c.from_residual.ensures.1 (omega arith) (omega arith)

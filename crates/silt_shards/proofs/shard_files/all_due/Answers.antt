@@ -1,9 +1,7 @@
-use Rattle.std.proofs.Common.{◌≡◌, ◌++◌, ◌∷◌, [], List, length, length-append, append_assoc, refl, sym, ◌∙◌, ap, subst, arith}
-use Rattle.std.specs.List.{AllZip}
+use Rattle.std.proofs.Common.{◌≡◌, ◌++◌, ◌∷◌, [], List, length, length-append, append_assoc, refl, sym, ◌∙◌, ap, arith}
 use Rattle.std.specs.Vec.Iter.{into_iter_items}
 use Rattle.std.proofs.lemmas.Slice.Zip.{AllZip-long}
 use Rattle.silt_shards.specs.Attempts.{IsAttemptOn}
-use Rattle.silt_shards.specs.declared.attempt.Attempt.{Attempt}
 use Rattle.silt_shards.specs.declared.attempt.Attempt.TheVariants.{Due}
 use Rattle.silt_shards.proofs.Attempts.{zip_whole}
 use Rattle.silt_shards.proofs.Openings.{zip_more}
@@ -16,7 +14,7 @@ loop-disk-init g c =
       can = tt;
       finite = tt;
       room = omega (arith, c.requires.room, ap length c.requires.none, ap length given.0, c.args.disks.ok, c.args.attempts.ok);
-      due = ([], refl, subst (λ (l : List (Attempt g.row.D.Denot g.row.D-Fault.Denot)). AllZip (IsAttemptOn g.D.Disk) [] l) (sym c.requires.none) tt);
+      due = ([], refl, rw c.requires.none tt);
     }
 
 pub loop-disk-preserved : goal.loop-disk-preserved
@@ -31,17 +29,14 @@ loop-disk-preserved g c =
       due = (
         due.0 ++ c.in-Some.disk ∷ [],
         append_assoc due.0 (c.in-Some.disk ∷ []) (into_iter_items c.next.new.self) ∙ ap (λ (l : List g.row.D.Denot). due.0 ++ l) (sym steps.0) ∙ due.1,
-        subst (λ (l : List (Attempt g.row.D.Denot g.row.D-Fault.Denot)). AllZip (IsAttemptOn g.D.Disk) (due.0 ++ c.in-Some.disk ∷ []) l)
-            (sym c.push_reserved.ensures.items) (zip_more (IsAttemptOn g.D.Disk) due.0 c.loop-disk.attempts.items c.in-Some.disk (Due c.in-Some.disk) due.2 refl),
+        rw c.push_reserved.ensures.items (zip_more (IsAttemptOn g.D.Disk) due.0 c.loop-disk.attempts.items c.in-Some.disk (Due c.in-Some.disk) due.2 refl),
       );
     }
 
 pub returns-clause-due : goal.returns-clause-due
 returns-clause-due g c =
     let due = c.loop-disk.invariant.due in
-    let given = c.into_iter-disk-iterator.ensures.into_iter_gives in
-    let none : length (into_iter_items c.loop-disk.disk-iterator) ≡ 0 = omega (arith, c.in-None.ensures.steps.0, c.loop-disk.disk-iterator.rest.ok) in
-    zip_whole (IsAttemptOn g.D.Disk) c.args.disks.items due.0 (into_iter_items c.loop-disk.disk-iterator) c.loop-disk.attempts.items (due.1 ∙ given.0) none due.2
+    zip_whole (IsAttemptOn g.D.Disk) _ _ _ _ (due.1 ∙ c.into_iter-disk-iterator.ensures.into_iter_gives.0) (omega (arith, c.in-None.ensures.steps.0, c.loop-disk.disk-iterator.rest.ok)) due.2
 
 pub returns-clause-count : goal.returns-clause-count
 returns-clause-count g c =

@@ -1,11 +1,6 @@
-use Rattle.std.proofs.Common.{◌≡◌, ◌≤◌, ◌∷◌, List, length, sym, ap, subst, arith}
-use Rattle.std.specs.List.{AllZip}
+use Rattle.std.proofs.Common.{◌≡◌, ◌≤◌, length, ap, arith}
 use Rattle.std.specs.Vec.Iter.{into_iter_items}
-use Rattle.silt_store_set.specs.CoreState.{CoreState}
-use Rattle.silt_shards.specs.Attempts.{IsAttemptOn}
-use Rattle.silt_shards.specs.Opening.{AreOfOneShape, IsLike}
-use Rattle.silt_shards.specs.declared.attempt.Attempt.{Attempt}
-use Rattle.silt_shards.proofs.Attempts.{Gathers, gathers_all, gathers_more, gathers_next, gathers_none, gathers_refused}
+use Rattle.silt_shards.proofs.Attempts.{gathers_all, gathers_more, gathers_next, gathers_none, gathers_refused}
 use Rattle.silt_shards.proofs.Openings.{count_most, shape_more, shape_none}
 use Rattle.silt_shards.proofs.shard_files.gather.Goals as goal
 
@@ -17,18 +12,15 @@ loop-attempt-init g c =
       finite = tt;
       room = omega (arith, c.requires.room, ap length c.requires.none, ap length given.0, c.args.attempts.ok, c.args.cores.ok);
       count = omega (arith, ap length c.requires.none, c.args.cores.ok);
-      gathered = λ disks every. gathers_none g.D.Disk disks c.args.cores.items (into_iter_items c.into_iter-attempt-iterator.result) c.requires.none every;
-      shape = subst (λ (l : List (CoreState g.row.D.Denot)). AreOfOneShape l) (sym c.requires.none) shape_none;
+      gathered = λ disks every. gathers_none g.D.Disk disks _ _ c.requires.none every;
+      shape = rw c.requires.none shape_none;
     }
 
 pub outcome-requires-after_bounds : goal.outcome-requires-after_bounds
 outcome-requires-after_bounds g c κs within =
-    let given = c.into_iter-attempt-iterator.ensures.into_iter_gives in
     let on = c.requires.on in
-    let every = subst (λ (l : List (Attempt g.row.D.Denot g.row.D-Fault.Denot)). AllZip (IsAttemptOn g.D.Disk) on.0 l) (sym given.0) on.1 in
-    let now = subst (λ (l : List (Attempt g.row.D.Denot g.row.D-Fault.Denot)). Gathers g.D.Disk on.0 c.loop-attempt.cores.items l)
-    c.in-Some.ensures.steps.0 (c.loop-attempt.invariant.gathered on.0 every) in
-    gathers_next g.D.Disk on.0 c.loop-attempt.cores.items c.in-Some.attempt (into_iter_items c.next.new.self) now
+    let every = rw (← c.into_iter-attempt-iterator.ensures.into_iter_gives.0) at on.1 in
+    gathers_next g.D.Disk on.0 c.loop-attempt.cores.items _ (into_iter_items c.next.new.self) (rw c.in-Some.ensures.steps.0 at (c.loop-attempt.invariant.gathered on.0 every))
 
 pub next_store-requires-after_bounds : goal.next_store-requires-after_bounds
 next_store-requires-after_bounds g c κs within =
@@ -38,10 +30,9 @@ next_store-requires-after_bounds g c κs within =
 
 pub returns-clause-opens : goal.returns-clause-opens
 returns-clause-opens g c = λ disks every.
-    let given = c.into_iter-attempt-iterator.ensures.into_iter_gives in
-    let none : length (into_iter_items c.loop-attempt.attempt-iterator) ≡ 0 = omega (arith, c.in-None.ensures.steps.0, c.loop-attempt.attempt-iterator.rest.ok) in
-    let first = subst (λ (l : List (Attempt g.row.D.Denot g.row.D-Fault.Denot)). AllZip (IsAttemptOn g.D.Disk) disks l) (sym given.0) every in
-    gathers_all g.D.Disk disks c.loop-attempt.cores.items (into_iter_items c.loop-attempt.attempt-iterator) (c.loop-attempt.invariant.gathered disks first) none
+    let first = rw (← c.into_iter-attempt-iterator.ensures.into_iter_gives.0) at every in
+    gathers_all g.D.Disk disks _ (into_iter_items c.loop-attempt.attempt-iterator) (c.loop-attempt.invariant.gathered disks first)
+    (omega (arith, c.in-None.ensures.steps.0, c.loop-attempt.attempt-iterator.rest.ok))
 
 pub returns-clause-count : goal.returns-clause-count
 returns-clause-count g c =
@@ -51,13 +42,9 @@ returns-clause-count g c =
 
 pub returns-in-Err-clause-cause : goal.returns-in-Err-clause-cause
 returns-in-Err-clause-cause g c = λ disks every.
-    let given = c.into_iter-attempt-iterator.ensures.into_iter_gives in
-    let first = subst (λ (l : List (Attempt g.row.D.Denot g.row.D-Fault.Denot)). AllZip (IsAttemptOn g.D.Disk) disks l) (sym given.0) every in
-    let left = c.in-Some.attempt ∷ into_iter_items c.next.new.self in
-    let at = subst (λ (l : List (Attempt g.row.D.Denot g.row.D-Fault.Denot)). Gathers g.D.Disk disks c.loop-attempt.cores.items l)
-    c.in-Some.ensures.steps.0 (c.loop-attempt.invariant.gathered disks first) in
-    let now = subst (λ (l : List (CoreState g.row.D.Denot)). Gathers g.D.Disk disks l left) (sym c.as_slice.ensures.value) at in
-    gathers_refused g.D.Disk disks c.as_slice.result.now c.in-Some.attempt (into_iter_items c.next.new.self) c.in-Err.fault.shard c.in-Err.fault.disk c.in-Err.fault.cause now c.in-Err.ensures.shard
+    let first = rw (← c.into_iter-attempt-iterator.ensures.into_iter_gives.0) at every in
+    let now = rw (c.in-Some.ensures.steps.0, ← c.as_slice.ensures.value) at (c.loop-attempt.invariant.gathered disks first) in
+    gathers_refused g.D.Disk disks c.as_slice.result.now c.in-Some.attempt (into_iter_items c.next.new.self) _ _ _ now c.in-Err.ensures.shard
     (λ disk on. c.in-Err.ensures.cause disk (c.outcome.ensures disk on)) (λ disk on. c.in-Err.ensures.images disk (c.outcome.ensures disk on))
 
 pub loop-attempt-preserved : goal.loop-attempt-preserved
@@ -70,10 +57,7 @@ loop-attempt-preserved g c =
       room = omega (arith, before.room, ap length steps.0, c.push_reserved.ensures.len, c.push_reserved.ensures.capacity);
       count = omega (arith, before.count, ap length steps.0, c.push_reserved.ensures.len);
       gathered = λ disks every.
-          let now = subst (λ (l : List (Attempt g.row.D.Denot g.row.D-Fault.Denot)). Gathers g.D.Disk disks c.loop-attempt.cores.items l) steps.0 (before.gathered disks every) in
-          subst (λ (l : List (CoreState g.row.D.Denot)). Gathers g.D.Disk disks l (into_iter_items c.next.new.self)) (sym c.push_reserved.ensures.items)
-          (gathers_more g.D.Disk disks c.loop-attempt.cores.items c.in-Some.attempt (into_iter_items c.next.new.self) c.in-Ok.core
-          now (λ disk on. c.in-Ok.ensures.opens disk (c.outcome.ensures disk on)));
-      shape = subst (λ (l : List (CoreState g.row.D.Denot)). AreOfOneShape l) (sym c.push_reserved.ensures.items)
-          (shape_more c.loop-attempt.cores.items c.in-Ok.core before.shape (subst (λ (l : List (CoreState g.row.D.Denot)). IsLike l c.in-Ok.core) c.as_slice.ensures.value c.in-Ok.ensures.like));
+          rw c.push_reserved.ensures.items (gathers_more g.D.Disk disks c.loop-attempt.cores.items c.in-Some.attempt (into_iter_items c.next.new.self) c.in-Ok.core
+          (rw steps.0 at (before.gathered disks every)) (λ disk on. c.in-Ok.ensures.opens disk (c.outcome.ensures disk on)));
+      shape = rw c.push_reserved.ensures.items (shape_more _ _ before.shape (rw c.as_slice.ensures.value at c.in-Ok.ensures.like));
     }

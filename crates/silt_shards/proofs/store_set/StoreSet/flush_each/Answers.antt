@@ -10,11 +10,9 @@ use Rattle.silt_shards.proofs.store_set.StoreSet.flush_each.Goals as goal
 pub invariant_of-self : goal.invariant_of-self
 invariant_of-self g c =
     let len = g.A.Answerer.value_len in
-    let old = c.deref_mut-shard-items.result.now in
-    let new = c.loop-shard.shard-items in
     let is = c.deref_mut-shard-items.ensures.value in
-    let back = written_back old new c.self.inside.shards.items c.self.inside.shards.len c.loop-shard.invariant.same_length is (sym c.deref_mut-shard-items.ensures.len) in
-    subst (IsSet len) (sym back) (set_stays len old new (subst (IsSet len) (sym is) c.self.invariant) c.loop-shard.invariant.same_length c.loop-shard.invariant.alike)
+    let back = written_back _ c.loop-shard.shard-items _ _ c.loop-shard.invariant.same_length is (sym c.deref_mut-shard-items.ensures.len) in
+    subst (IsSet len) (sym back) (set_stays len _ _ (subst (IsSet len) (sym is) c.self.invariant) c.loop-shard.invariant.same_length c.loop-shard.invariant.alike)
 
 pub loop-shard-preserved : goal.loop-shard-preserved
 loop-shard-preserved g c =
@@ -43,8 +41,6 @@ loop-shard-preserved g c =
 pub returns-clause-stays : goal.returns-clause-stays
 returns-clause-stays g c =
     let len = g.A.Answerer.value_len in
-    let old = c.deref_mut-shard-items.result.now in
-    let new = c.loop-shard.shard-items in
     let is = c.deref_mut-shard-items.ensures.value in
-    let back = written_back old new c.self.inside.shards.items c.self.inside.shards.len c.loop-shard.invariant.same_length is (sym c.deref_mut-shard-items.ensures.len) in
-    ap (value_len_of len) back ∙ len_stays len old new c.loop-shard.invariant.same_length c.loop-shard.invariant.alike ∙ ap (value_len_of len) (is ∙ c.self.view_is)
+    let back = written_back _ c.loop-shard.shard-items _ _ c.loop-shard.invariant.same_length is (sym c.deref_mut-shard-items.ensures.len) in
+    ap (value_len_of len) back ∙ len_stays len _ _ c.loop-shard.invariant.same_length c.loop-shard.invariant.alike ∙ ap (value_len_of len) (is ∙ c.self.view_is)

@@ -1,6 +1,6 @@
-use Rattle.std.proofs.Common.{◌<◌, ◌≤◌, ◌+◌, ◌∙◌, drop, List, None, Option, Some, arith, length, subst, sym}
+use Rattle.std.proofs.Common.{◌<◌, ◌≤◌, ◌+◌, drop, None, arith, length, subst}
 use Rattle.silt_event.specs.declared.facts.Facts.{Facts}
-use Rattle.silt_shards.specs.SetFacts.{AddsFacts, Informs, SetInforms, no_facts}
+use Rattle.silt_shards.specs.SetFacts.{AddsFacts, Informs}
 use Rattle.silt_shards.proofs.Sums.{adds_end, adds_none, adds_one}
 use Rattle.silt_shards.proofs.store_set.StoreSet.sum_facts.Goals as goal
 
@@ -19,17 +19,11 @@ loop-shard-preserved g c =
 pub returns-in_err-facts_given : goal.returns-in_err-facts_given
 returns-in_err-facts_given g c =
     let shards = c.deref-shard-items.result.now in
-    let informs = Informs g.A.Answerer.administers in
     let within : c.loop-shard.shard-index < length shards = omega arith in
-    let none = c.loop-shard.invariant None (adds_none informs shards c.loop-shard.shard-index c.shard-item.result c.loop-shard.sum within c.shard-item.is c.in_err-facts_given.ensures) in
-    subst (λ (r : Option Facts). SetInforms informs c.args.self.now r) (sym c.from_residual.ensures)
-    (subst (λ l. AddsFacts informs no_facts l None) (c.deref-shard-items.ensures.value ∙ c.self.view_is) (subst (λ (s : Facts). AddsFacts informs s shards None) c.no_facts-sum.ensures none))
+    let none = c.loop-shard.invariant None (adds_none (Informs g.A.Answerer.administers) shards _ c.shard-item.result _ within c.shard-item.is c.in_err-facts_given.ensures) in
+    rw (c.from_residual.ensures, ← c.self.view_is, ← c.deref-shard-items.ensures.value, ← c.no_facts-sum.ensures) none
 
 pub returns : goal.returns
 returns g c =
-    let shards = c.deref-shard-items.result.now in
-    let informs = Informs g.A.Answerer.administers in
-    let past : length shards ≤ c.loop-shard.shard-index = omega arith in
-    let all = c.loop-shard.invariant (Some c.loop-shard.sum) (adds_end informs shards c.loop-shard.shard-index c.loop-shard.sum past) in
-    subst (λ l. AddsFacts informs no_facts l (Some c.loop-shard.sum)) (c.deref-shard-items.ensures.value ∙ c.self.view_is)
-    (subst (λ (s : Facts). AddsFacts informs s shards (Some c.loop-shard.sum)) c.no_facts-sum.ensures all)
+    let past : length c.deref-shard-items.result.now ≤ c.loop-shard.shard-index = omega arith in
+    rw (← c.self.view_is, ← c.deref-shard-items.ensures.value, ← c.no_facts-sum.ensures) (c.loop-shard.invariant _ (adds_end (Informs g.A.Answerer.administers) _ _ c.loop-shard.sum past))
