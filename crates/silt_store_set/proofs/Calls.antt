@@ -1,15 +1,15 @@
 -- What the calls of a store do, from what the calls of its stores in memory do.
-use Rattle.silt_store_set.proofs.Common.{◌≡◌, ◌≤◌, ◌<◌, ℕ, ◌+◌, ◌%◌, ◌^◌, Bool, true, false, IsTrue, List, [], ◌++◌, length, refl, ap, sym, ◌∙◌, subst, arith, Content, LeavesOnly, MakesAtMost}
-use Rattle.silt_store_set.proofs.Common.{device_size, Ghosts, Command, Map, map_after, image_map, StandsFor, Advances, Breaks, Remaps, SameDisk, Stands, base_map, full_image, waiting_commands}
-use Rattle.silt_store_set.proofs.Common.{EngineState, meaning, Event, Flush, Refusal, Failed, Reply, Refused, Step, Counts, accepted_command, is_failed, BasisState, basis_kept, basis_of, IsCore}
-use Rattle.silt_store_set.proofs.Common.{CoreState, map_of, Cause, Durable, Does, MadeFor, convert_work, is_convert, is_merge, merge_work, most_syncs, most_writes}
-use Rattle.std.proofs.Common.{length-append}
+use Rattle.silt_store_set.proofs.Common.{◌≡◌, ◌≤◌, ◌<◌, ℕ, ◌+◌, ◌^◌, Bool, true, false, IsTrue, List, [], ◌++◌, length, refl, ap, sym, ◌∙◌, subst, arith, LeavesOnly, MakesAtMost}
+use Rattle.silt_store_set.proofs.Common.{device_size, Ghosts, Command, Map, map_after, image_map, StandsFor, Stands, full_image, waiting_commands, EngineState, meaning, Event, Flush}
+use Rattle.silt_store_set.proofs.Common.{Refusal, Failed, Reply, Refused, Step, Counts, accepted_command, is_failed, BasisState, basis_kept, basis_of, IsCore, CoreState, map_of, Cause}
+use Rattle.silt_store_set.proofs.Common.{Durable, Does, MadeFor, convert_work, is_convert, is_merge, merge_work, most_syncs, most_writes}
+use Rattle.std.proofs.Common.{Err, Ok, length-append}
 use Rattle.silt_disk.proofs.Costs.{most_none}
-use Rattle.silt_engine.specs.Calls.{HoldsPrefix}
+use Rattle.silt_engine.specs.Calls.{BreaksOff, HoldsPrefix, WorksBy}
 use Rattle.silt_engine.specs.Laws.{IsGoodWith}
 use Rattle.silt_event.specs.declared.refusal.Refusal.TheVariants.{Device}
-use Rattle.silt_store_set.specs.CoreState.{is_finished, is_refused}
-use Rattle.silt_store_set.proofs.Maps.{append_nil, map_after-append}
+use Rattle.silt_store_set.specs.CoreState.{FailsBy, is_finished, is_refused}
+use Rattle.silt_store_set.proofs.Maps.{append_nil}
 
 -- what contracts see of a store with these fields that is not failed
 abbrev pub seen : {D F : Type 0} → Ghosts D F → D → EngineState → ℕ → CoreState D
@@ -51,8 +51,7 @@ stands_seen facts disk stores count stands = record {
   numbers = (meaning (facts.content disk) stores stands).numbers;
   has_map = λ h. cc ((meaning (facts.content disk) stores stands).full h, (meaning (facts.content disk) stores stands).shown h);
   safe = record {
-    each = λ h image left. subst (λ m. StandsFor stores.manifest.shape m image) (sym ((meaning (facts.content disk) stores stands).shown h))
-        ((meaning (facts.content disk) stores stands).safe.each h image left);
+    each = λ h image left. rw (← ((meaning (facts.content disk) stores stands).shown h)) at ((meaning (facts.content disk) stores stands).safe.each h image left);
   };
 }
 
@@ -65,9 +64,7 @@ pub record Endures {D F : Type 0} (facts : Ghosts D F) (core : CoreState D) : Ty
 
 pub endures : {D F : Type 0} (facts : Ghosts D F) (disk : D) (stores : EngineState) (count : ℕ) (failed : Bool) (basis : BasisState) → IsCore (facts.content disk) stores count failed basis
     → Endures facts (seen_core facts disk stores count failed basis)
-endures facts disk stores count true basis holds =
-    let breaks = holds.breaks refl in
-    record { safe = λ f. absurd (cc); begun = breaks.begun; has_map = breaks.has_map; few = breaks.few }
+endures facts disk stores count true basis holds = search (arith, holds.breaks)
 endures facts disk stores count false basis holds =
     let standing = stands_seen facts disk stores count (holds.stands refl) in
     record {
@@ -85,60 +82,48 @@ endures facts disk stores count false basis holds =
 
 -- and of the store that contracts see so
 pub endures_seen : {D F : Type 0} (facts : Ghosts D F) (disk : D) (stores : EngineState) (count : ℕ) (failed : Bool) (basis : BasisState) (core : CoreState D)
-    → seen_core facts disk stores count failed basis ≡ core
-    → IsCore (facts.content disk) stores count failed basis → Endures facts core
+    → seen_core facts disk stores count failed basis ≡ core → IsCore (facts.content disk) stores count failed basis → Endures facts core
 endures_seen facts disk stores count failed basis core is holds = subst (Endures facts) is (endures facts disk stores count failed basis holds)
 
--- what is true of a store stays true if its disk and its stores stay
-pub core_stays : {D : Type 0} (content : D → Content) (old new : D) (stores after : EngineState) (count : ℕ) (failed : Bool) (basis : BasisState)
-    → IsCore (content old) stores count failed basis → after ≡ stores → new ≡ old
-    → IsCore (content new) after count failed basis
-core_stays content old new stores after count failed basis holds same same_disk = rw (same_disk, same) holds
-
--- what is true of a store after a failed write or sync
-pub core_broke : (old new : Content) (stores after : EngineState) (count : ℕ) (failed : Bool) (basis : BasisState) → IsCore old stores count failed basis → failed ≡ false → SameDisk old new
-    → after.manifest.shape ≡ stores.manifest.shape → Breaks old new stores → Remaps [] old new stores after → IsCore new after count true (basis_of old stores)
-core_broke old new stores after count failed basis holds working same shape breaks maps =
-    let back : IsTrue new.honest → IsTrue old.honest = λ h. sym same.honest ∙ h in
-    let means = meaning old stores (holds.stands working) in
-    record {
-      has_size = same.size ∙ holds.has_size ∙ ap device_size (sym shape);
-      count_most = holds.count_most;
-      stands = λ f. absurd (cc);
-      few = λ f. absurd (cc);
-      breaks = λ _. record {
-        begun = record {
-          each = λ h image left.
-              subst (λ s. HoldsPrefix s (image_map old.shown) (waiting_commands old stores) image) (sym shape)
-              (subst (λ m. HoldsPrefix stores.manifest.shape m (waiting_commands old stores) image) (sym (means.shown (back h))) (breaks.each h image left));
+module _ {D F T E : Type 0} (facts : Ghosts D F) (MadeOk : T → Type 0) (adds : List Command) (w s : ℕ) (disk new : D) (stores after : EngineState) (count : ℕ)
+    (failed : Bool) (basis : BasisState) (holds : IsCore (facts.content disk) stores count failed basis) (working : failed ≡ false) where
+  -- what is true of a store after a failed write or sync
+  pub core_broke : (e : E) (fault : F) → WorksBy facts MadeOk adds w s disk new stores after (Err e) → BreaksOff facts disk new stores after fault
+      → IsCore (facts.content new) after count true (basis_of (facts.content disk) stores)
+  core_broke e fault works off =
+      let back : IsTrue (facts.content new).honest → IsTrue (facts.content disk).honest = λ h. sym works.same.honest ∙ h in
+      let means = meaning (facts.content disk) stores (holds.stands working) in
+      let waiting : List Command = waiting_commands (facts.content disk) stores in
+      record {
+        has_size = works.same.size ∙ holds.has_size ∙ ap device_size (sym works.shape);
+        count_most = holds.count_most;
+        stands = λ f. absurd (cc);
+        few = λ f. absurd (cc);
+        breaks = λ _. record {
+          begun = record {
+            each = λ h image left. subst (λ s. HoldsPrefix s (image_map (facts.content disk).shown) waiting image) (sym works.shape) (subst (λ m. HoldsPrefix stores.manifest.shape m waiting
+                image) (sym (means.shown (back h))) (off.breaks.each h image left));
+          };
+          has_map = λ h. off.map (back h) ∙ means.full (back h) ∙ ap (λ m. map_after m waiting) (sym (means.shown (back h)));
+          few = λ h. holds.few working (back h);
         };
-        has_map = λ h. maps (back h) ∙ means.full (back h) ∙ ap (λ m. map_after m (waiting_commands old stores)) (sym (means.shown (back h)));
-        few = λ h. holds.few working (back h);
-      };
-    }
+      }
 
--- what is true of a store after a successful call that accepted these commands
-pub core_went : (adds : List Command) (old new : Content) (stores after : EngineState) (count next : ℕ) (failed : Bool) (basis : BasisState)
-    → IsCore old stores count failed basis → failed ≡ false → SameDisk old new
-    → Advances adds old new stores after → next ≡ count + length adds → next < 2 ^ 63 → IsCore new after next failed basis
-core_went adds old new stores after count next failed basis holds working same goes is most = record {
-  has_size = same.size ∙ holds.has_size ∙ ap device_size (sym goes.shape);
-  count_most = most;
-  stands = λ _. goes.stands;
-  few = λ _ h.
-      let there : IsTrue old.honest = sym same.honest ∙ h in
-      let moves = goes.moves there in
-      let long : length (moves.moved ++ waiting_commands new after) ≡ length (waiting_commands old stores ++ adds) = ap length moves.rest in
-      omega (
-        arith,
-        long,
-        length-append moves.moved (waiting_commands new after),
-        length-append (waiting_commands old stores) adds,
-        holds.few working there,
-        is,
-      );
-  breaks = λ f. absurd (let no : false ≡ true = sym working ∙ f in cc);
-}
+  -- what is true of a store after a successful call that accepted these commands
+  pub core_went : (v : T) (next : ℕ) → WorksBy {E = E} facts MadeOk adds w s disk new stores after (Ok v) → next ≡ count + length adds → next < 2 ^ 63
+      → IsCore (facts.content new) after next failed basis
+  core_went v next works is most = record {
+    has_size = works.same.size ∙ holds.has_size ∙ ap device_size (sym works.shape);
+    count_most = most;
+    stands = λ _. works.advances.stands;
+    few = λ _ h.
+        let there : IsTrue (facts.content disk).honest = sym works.same.honest ∙ h in
+        let moves = works.advances.moves there in
+        let waits : List Command = waiting_commands (facts.content new) after in
+        let long : length (moves.moved ++ waits) ≡ length (waiting_commands (facts.content disk) stores ++ adds) = ap length moves.rest in
+        omega (arith, long, length-append moves.moved waits, length-append (waiting_commands (facts.content disk) stores) adds, holds.few working there, is);
+    breaks = λ f. absurd (let no : false ≡ true = sym working ∙ f in cc);
+  }
 
 -- ---- calls that change nothing
 
@@ -154,39 +139,13 @@ module _ {D F : Type 0} (facts : Ghosts D F) where
   -- a call that leaves the store as it was
   pub unchanged : (core : CoreState D) (event : Event) (reply : Reply F) → Counts core.count reply core.count → Cause facts core core event reply → MadeFor facts core core event reply
       → (core.failed ≡ true → reply ≡ Refused Failed) → (IsTrue (is_failed reply) → core.failed ≡ true)
-      → (core.failed ≡ false → IsTrue (facts.content core.disk).honest → Step (map_of core) event reply (map_of core))
-      → accepted_command event reply ≡ [] → (IsTrue (facts.content core.disk).honest → Durable core reply)
-      → (core.failed ≡ false → Standing facts core) → Does facts core core event reply
-  unchanged core event reply counts cause made failed told step none settles stands = record {
-    made = made;
-    disk = record { size = refl; honest = refl };
-    shape = refl;
-    counts = counts;
-    cause = cause;
-    stays = λ _ _. refl;
-    failed = λ e. (refl, failed e);
-    failed_only = told;
-    faulted = λ a b. absurd (let no : false ≡ true = sym a ∙ b in cc);
-    quiet = λ _. refl;
-    counted = λ a b. absurd (let no : false ≡ true = sym a ∙ b in cc);
-    keeps_body = λ _ _ _. refl;
-    keeps_converting = λ _ _. refl;
-    keeps_merging = λ _ _. refl;
-    step = step;
-    has_map = λ f h. (stands f).has_map h;
-    numbers = λ f h. (stands f).numbers h;
-    moves = λ f h. record { moved = []; rest = sym (append_nil core.waiting) ∙ ap (λ cs. core.waiting ++ cs) (sym none); base = refl };
-    settles = settles;
-    safe = λ f. (stands f).safe;
-    crash = λ a b. absurd (let no : false ≡ true = sym a ∙ b in cc);
-    keeps_basis = λ _ _. (refl, refl);
-  }
+      → (core.failed ≡ false → IsTrue (facts.content core.disk).honest → Step (map_of core) event reply (map_of core)) → accepted_command event reply ≡ []
+      → (IsTrue (facts.content core.disk).honest → Durable core reply) → (core.failed ≡ false → Standing facts core) → Does facts core core event reply
+  unchanged core event reply counts cause made failed told step none settles stands = search (arith, append_nil)
 
   -- a failed store refuses
   pub refused_failed : (core : CoreState D) (event : Event) → core.failed ≡ true → Cause facts core core event (Refused Failed) → Does facts core core event (Refused Failed)
-  refused_failed core event failed cause =
-      unchanged core event (Refused Failed) refl cause most_none (λ _. refl) (λ _. failed) (λ f. absurd (let no : false ≡ true = sym f ∙ failed in cc)) (none_refused {F = F} event Failed) (λ _. tt)
-      (λ f. absurd (let no : false ≡ true = sym f ∙ failed in cc))
+  refused_failed core event failed cause = search (arith, most_none)
 
   -- a store that is not failed refuses, for another cause than a failure, and stays as it was
   pub refused : (disk : D) (stores : EngineState) (count : ℕ) (event : Event) (refusal : Refusal F) → Stands (facts.content disk) stores → is_failed (Refused refusal) ≡ false
@@ -197,74 +156,56 @@ module _ {D F : Type 0} (facts : Ghosts D F) where
       (λ _ _. step_refused (image_map (full_image (facts.content disk) stores)) event refusal) (none_refused event refusal) (λ _. tt) (λ _. stands_seen facts disk stores count stands)
 
   -- a store that is not failed replies without a change
-  pub answered : (disk : D) (stores : EngineState) (count : ℕ) (event : Event) (reply : Reply F)
-      → Stands (facts.content disk) stores → Counts count reply count → is_failed reply ≡ false → accepted_command event reply ≡ []
-      → Cause facts (seen facts disk stores count) (seen facts disk stores count) event reply
+  pub answered : (disk : D) (stores : EngineState) (count : ℕ) (event : Event) (reply : Reply F) → Stands (facts.content disk) stores → Counts count reply count → is_failed reply ≡ false
+      → accepted_command event reply ≡ [] → Cause facts (seen facts disk stores count) (seen facts disk stores count) event reply
       → MadeFor facts (seen facts disk stores count) (seen facts disk stores count) event reply
       → (IsTrue (facts.content disk).honest → Step (image_map (full_image (facts.content disk) stores)) event reply (image_map (full_image (facts.content disk) stores)))
-      → (IsTrue (facts.content disk).honest → Durable (seen facts disk stores count) reply)
-      → Does facts (seen facts disk stores count) (seen facts disk stores count) event reply
+      → (IsTrue (facts.content disk).honest → Durable (seen facts disk stores count) reply) → Does facts (seen facts disk stores count) (seen facts disk stores count) event reply
   answered disk stores count event reply stands counts other none cause made step settles =
       unchanged (seen facts disk stores count) event reply counts cause made (λ f. absurd (cc)) (λ t. absurd (let no : false ≡ true = sym other ∙ t in cc))
       (λ _ h. step h) none settles (λ _. stands_seen facts disk stores count stands)
 
   -- ---- calls that write
 
-  module _ (disk new : D) (stores after : EngineState) (same : SameDisk (facts.content disk) (facts.content new)) (stands : Stands (facts.content disk) stores) where
-    there : IsTrue (facts.content disk).honest → IsTrue (facts.content new).honest
-    there h = same.honest ∙ h
+  -- the store that a failed write or sync leaves
+  abbrev broken : (disk new : D) (stores after : EngineState) → ℕ → CoreState D
+  broken disk new stores after count = seen_failed facts (basis_of (facts.content disk) stores) new after count
 
-    back : IsTrue (facts.content new).honest → IsTrue (facts.content disk).honest
-    back h = sym same.honest ∙ h
-
-    -- the map after a successful call
-    pub advanced_map : (adds : List Command) → Advances adds (facts.content disk) (facts.content new) stores after → IsTrue (facts.content disk).honest
-        → image_map (full_image (facts.content new) after) ≡ map_after (image_map (full_image (facts.content disk) stores)) adds
-    advanced_map adds goes h =
-        let moves = goes.moves h in
-        (meaning (facts.content new) after goes.stands).full (there h)
-        ∙ ap (λ m. map_after m (waiting_commands (facts.content new) after)) moves.base
-        ∙ sym (map_after-append (base_map (facts.content disk) stores) moves.moved (waiting_commands (facts.content new) after))
-        ∙ ap (map_after (base_map (facts.content disk) stores)) moves.rest
-        ∙ map_after-append (base_map (facts.content disk) stores) (waiting_commands (facts.content disk) stores) adds
-        ∙ ap (λ m. map_after m adds) (sym ((meaning (facts.content disk) stores stands).full h))
-
+  module _ {T E : Type 0} (MadeOk : T → Type 0) (adds : List Command) (w s : ℕ) (disk new : D) (stores after : EngineState) (stands : Stands (facts.content disk) stores) where
     -- a call succeeds, and these commands are accepted
-    pub advanced : (adds : List Command) (count next : ℕ) (event : Event) (reply : Reply F) → Advances adds (facts.content disk) (facts.content new) stores after
-        → Counts count reply next → accepted_command event reply ≡ adds → is_refused reply ≡ false → is_failed reply ≡ false
-        → Cause facts (seen facts disk stores count) (seen facts new after next) event reply
-        → ((m to : Map) → to ≡ map_after m adds → Step m event reply to)
-        → (adds ≡ [] → is_finished reply ≡ false → after.manifest.current ≡ stores.manifest.current)
+    pub advanced : (v : T) → WorksBy {E = E} facts MadeOk adds w s disk new stores after (Ok v) → (count next : ℕ) (event : Event) (reply : Reply F) → Counts count reply next
+        → accepted_command event reply ≡ adds → is_refused reply ≡ false → is_failed reply ≡ false → Cause facts (seen facts disk stores count) (seen facts new after next) event reply
+        → ((m to : Map) → to ≡ map_after m adds → Step m event reply to) → (adds ≡ [] → is_finished reply ≡ false → after.manifest.current ≡ stores.manifest.current)
         → (is_convert event ≡ false → after.converting ≡ stores.converting) → (is_merge event ≡ false → after.merging ≡ stores.merging)
-        → (IsTrue (facts.content disk).honest → Durable (seen facts new after next) reply) → facts.failures new ≡ facts.failures disk
-        → MadeFor facts (seen facts disk stores count) (seen facts new after next) event reply
+        → (IsTrue (facts.content disk).honest → Durable (seen facts new after next) reply) → MadeFor facts (seen facts disk stores count) (seen facts new after next) event reply
         → Does facts (seen facts disk stores count) (seen facts new after next) event reply
-    advanced adds count next event reply goes counts own answers tells cause step named converts merges settles none_failed made =
-        let standing = stands_seen facts new after next goes.stands in
+    advanced v works count next event reply counts own answers tells cause step named converts merges settles made =
+        let standing = stands_seen facts new after next works.advances.stands in
+        let there : IsTrue (facts.content disk).honest → IsTrue (facts.content new).honest = λ h. works.same.honest ∙ h in
         record {
           made = made;
-          disk = same;
-          shape = goes.shape;
+          disk = works.same;
+          shape = works.shape;
           counts = counts;
           cause = cause;
           stays = λ r. absurd (let no : false ≡ true = sym answers ∙ r in cc);
           failed = λ f. absurd (cc);
           failed_only = λ t. absurd (let no : false ≡ true = sym tells ∙ t in cc);
           faulted = λ _ f. absurd (cc);
-          quiet = λ _. none_failed;
+          quiet = λ _. works.failures;
           counted = λ _ f. absurd (cc);
           keeps_body = λ _ none unfinished. named (sym own ∙ none) unfinished;
           keeps_converting = λ _ other. ap convert_work (converts other);
           keeps_merging = λ _ other. ap merge_work (merges other);
-          step = λ _ h. step _ _ (advanced_map adds goes h);
+          step = λ _ h. step _ _ (works.map h);
           has_map = λ _ h. standing.has_map (there h);
           numbers = λ _ h. standing.numbers (there h);
           moves = λ _ h.
-              let moves = goes.moves h in
+              let moves = works.advances.moves h in
               record {
                 moved = moves.moved;
                 rest = moves.rest ∙ ap (λ cs. waiting_commands (facts.content disk) stores ++ cs) (sym own);
-                base = (meaning (facts.content new) after goes.stands).shown (there h) ∙ moves.base ∙ ap (λ m. map_after m moves.moved) (sym ((meaning (facts.content disk) stores stands).shown h));
+                base = cc ((meaning (facts.content new) after works.advances.stands).shown (there h), moves.base, (meaning (facts.content disk) stores stands).shown h);
               };
           settles = settles;
           safe = λ _. standing.safe;
@@ -273,38 +214,35 @@ module _ {D F : Type 0} (facts : Ghosts D F) where
         }
 
     -- a write or sync failed
-    pub broke : (count : ℕ) (event : Event) (fault : F) → Breaks (facts.content disk) (facts.content new) stores → after.manifest.shape ≡ stores.manifest.shape
-        → (IsTrue (facts.content disk).honest → image_map (full_image (facts.content new) after) ≡ image_map (full_image (facts.content disk) stores))
-        → Cause facts (seen facts disk stores count) (seen_failed facts (basis_of (facts.content disk) stores) new after count) event (Refused (Device fault))
-        → facts.failures new ≡ (facts.failures disk + 1) % 2 ^ 64
+    pub broke : (e : E) (count : ℕ) (event : Event) (fault : F) → WorksBy facts MadeOk adds w s disk new stores after (Err e) → BreaksOff facts disk new stores after fault
+        → (FailsBy facts (seen facts disk stores count) (broken disk new stores after count) fault
+        → Cause facts (seen facts disk stores count) (broken disk new stores after count) event (Refused (Device fault)))
         → MakesAtMost facts.writes facts.syncs (most_writes (seen facts disk stores count) event) (most_syncs (seen facts disk stores count) event) disk new
-        → Does facts (seen facts disk stores count) (seen_failed facts (basis_of (facts.content disk) stores) new after count) event (Refused (Device fault))
-    broke count event fault breaks shape maps cause one_failed most = record {
+        → Does facts (seen facts disk stores count) (broken disk new stores after count) event (Refused (Device fault))
+    broke e count event fault works off cause most = record {
       made = most;
-      disk = same;
-      shape = shape;
+      disk = works.same;
+      shape = works.shape;
       counts = refl;
-      cause = cause;
+      cause = cause (record { given = off.counted.1; counted = off.counted.0; failed = refl });
       stays = λ _ f. absurd (cc);
       failed = λ f. absurd (cc);
       failed_only = λ t. absurd (cc);
       faulted = λ _ _. refl;
       quiet = λ f. absurd (cc);
-      counted = λ _ _. one_failed;
+      counted = λ _ _. off.counted.0;
       keeps_body = λ f. absurd (cc);
       keeps_converting = λ f. absurd (cc);
       keeps_merging = λ f. absurd (cc);
-      step = λ _ h. subst (Step (image_map (full_image (facts.content disk) stores)) event (Refused (Device fault))) (sym (maps h))
-          (step_refused (image_map (full_image (facts.content disk) stores)) event (Device fault));
+      step = λ _ h. rw (off.map h) (step_refused (image_map (full_image (facts.content disk) stores)) event (Device fault));
       has_map = λ f. absurd (cc);
       numbers = λ f. absurd (cc);
       moves = λ f. absurd (cc);
       settles = λ _. tt;
       safe = λ f. absurd (cc);
       crash = λ _ _. record {
-        each = λ h image left.
-            subst (λ m. HoldsPrefix stores.manifest.shape m (waiting_commands (facts.content disk) stores) image)
-            (sym ((meaning (facts.content disk) stores stands).shown (back h))) (breaks.each h image left);
+        each = λ h image left. subst (λ m. HoldsPrefix stores.manifest.shape m (waiting_commands (facts.content disk) stores) image) (sym ((meaning (facts.content disk) stores stands).shown
+            (sym works.same.honest ∙ h))) (off.breaks.each h image left);
       };
       keeps_basis = λ _ _. (refl, refl);
     }

@@ -1,9 +1,14 @@
 -- What a step of conversion does, from what the same step of the stores in memory does.
-use Rattle.silt_store_set.proofs.Common.{◌≡◌, ℕ, ◌+◌, ◌%◌, ◌^◌, inl, inr, false, true, IsTrue, [], length, Option, Some, None, IfSome, refl, ap, sym, ◌∙◌, subst, length-map, GaveAny, Makes}
-use Rattle.silt_store_set.proofs.Common.{MakesAtMost, none_made, Ghosts, ConversionState, hash_rows, Advances, Breaks, IsLastGeneration, Remaps, SameDisk, step_syncs, step_writes, convert_turn}
-use Rattle.silt_store_set.proofs.Common.{is_work, Stands, full_image, EngineState, hash_region_of, region_of, Idle, Waiting, Moved, Finished, Convert, Spent, Progress, Refused, basis_of, CoreState}
-use Rattle.silt_store_set.proofs.Common.{ConvertGoesOn, Does, MadeFor, convert_due, convert_work, written_of}
-use Rattle.silt_engine.specs.Conversion.{AreConverted, Converts, Finishes, HasConvertedRows, IsNextStep, MovesOn, oldest_rows, written_by}
+use Rattle.silt_store_set.proofs.Common.{◌≡◌, ℕ, inl, inr, false, IsTrue, [], length, Option, Some, None, refl, ap, sym, ◌∙◌, subst, length-map, Makes, MakesAtMost, none_made, Ghosts}
+use Rattle.silt_store_set.proofs.Common.{ConversionState, hash_rows, step_syncs, step_writes, convert_turn, is_work, Stands, full_image, EngineState, hash_region_of, region_of, Idle}
+use Rattle.silt_store_set.proofs.Common.{Waiting, Moved, Finished, Convert, Spent, Progress, Refused, Refusal, basis_of, CoreState, ConvertGoesOn, Does, convert_due, convert_work}
+use Rattle.silt_store_set.proofs.Common.{written_of}
+use Rattle.silt_engine.specs.Calls.{WorksBy}
+use Rattle.silt_engine.specs.declared.conversion.ConvertError.{ConvertError}
+use Rattle.silt_engine.specs.declared.conversion.ConvertError.TheVariants.{Read, Write}
+use Rattle.silt_engine.specs.declared.conversion.ConvertError.TheVariants as error
+use Rattle.std.proofs.Common.{Err, Ok, Result, arith}
+use Rattle.silt_engine.specs.Conversion.{AreConverted, ConvertErrorCause, Converts, Finishes, HasConvertedRows, IsNextStep, MovesOn, oldest_rows, written_by}
 use Rattle.silt_event.specs.declared.progress.Progress.{Progress as ProgressOf}
 use Rattle.silt_event.specs.declared.refusal.Refusal.TheVariants.{Device, NoMemory}
 use Rattle.silt_store_set.specs.CoreState.{ConvertsTo}
@@ -32,10 +37,6 @@ module _ {D F : Type 0} (facts : Ghosts D F) (disk : D) (stores : EngineState) (
       let hashed : length stores.manifest.current.hashed ≡ length stores.hashes = ap length (sym stands.whole.hash_regions) ∙ length-map stores.hashes hash_region_of in
       cc (written_same stores.converting)
 
-  -- what a step makes, as contracts see it
-  made_step : (progress : ProgressOf) → Makes facts.writes facts.syncs (step_writes progress) (step_syncs progress) disk disk → MadeFor facts before before Convert (Progress progress)
-  made_step progress made = made
-
   -- the step that is due makes what was made
   made_due : (progress : ProgressOf) (new : D) → progress ≡ convert_turn stores → Makes facts.writes facts.syncs (step_writes (convert_turn stores)) (step_syncs (convert_turn stores)) disk new
       → Makes facts.writes facts.syncs (step_writes progress) (step_syncs progress) disk new
@@ -45,38 +46,37 @@ module _ {D F : Type 0} (facts : Ghosts D F) (disk : D) (stores : EngineState) (
   stood : (progress : ProgressOf) (new : D) (after : EngineState) → progress ≡ convert_turn stores → new ≡ disk → after ≡ stores → facts.failures new ≡ facts.failures disk
       → ConvertsTo facts before before progress → Makes facts.writes facts.syncs (step_writes progress) (step_syncs progress) disk disk
       → is_work progress ≡ false → Does facts before (seen facts new after count) Convert (Progress progress)
-  stood progress new after due same_disk same counted does made idle =
-      rw (same_disk, same) (answered facts disk stores count Convert (Progress progress) stands refl refl refl (refl, due ∙ sym due_same, does, refl) (made_step progress made) (λ _. refl) (λ _. tt))
+  stood progress new after due same_disk same counted does made idle = rw (same_disk, same) (search (arith, answered, due_same))
 
   -- what the slots have
   rows_are : (new : D) (after : EngineState) (conversion : ConversionState) → stores.converting ≡ Some conversion → HasConvertedRows (facts.content disk) (facts.content new) stores after
       → AreConverted stores.manifest.shape (oldest_rows stores.manifest.shape stores.manifest.current (full_image (facts.content disk) stores))
       (hash_rows stores.manifest.shape conversion.region (full_image (facts.content new) after))
-  rows_are new after conversion was has =
-      subst (λ (o : Option ConversionState). IfSome o (λ c.
-      AreConverted stores.manifest.shape (oldest_rows stores.manifest.shape stores.manifest.current (full_image (facts.content disk) stores))
-      (hash_rows stores.manifest.shape c.region (full_image (facts.content new) after)))) was has
+  rows_are new after conversion was has = search arith
+
+  -- what the call of the stores in memory does
+  abbrev Works : D → EngineState → Result ProgressOf (ConvertError F) → Type 0
+  Works new after result = WorksBy facts (λ _. Makes facts.writes facts.syncs (step_writes (convert_turn stores)) (step_syncs (convert_turn stores)) disk new) []
+      (step_writes (convert_turn stores)) (step_syncs (convert_turn stores)) disk new stores after result
 
   -- a step succeeded
-  pub stepped : (progress : ProgressOf) (new : D) (after : EngineState) → SameDisk (facts.content disk) (facts.content new) → Advances [] (facts.content disk) (facts.content new) stores after
+  pub stepped : (progress : ProgressOf) (new : D) (after : EngineState) → Works new after (Ok progress)
       → Converts progress stores after → (progress ≡ Finished → IsTrue (facts.content disk).honest → HasConvertedRows (facts.content disk) (facts.content new) stores after)
-      → (is_work progress ≡ false → new ≡ disk) → facts.failures new ≡ facts.failures disk
-      → Makes facts.writes facts.syncs (step_writes (convert_turn stores)) (step_syncs (convert_turn stores)) disk new
-      → Does facts before (seen facts new after count) Convert (Progress progress)
-  stepped Idle new after same goes converts rows quiet counted made = stood Idle new after converts.due (quiet refl) converts.done counted refl none_made refl
-  stepped Waiting new after same goes converts rows quiet counted made = stood Waiting new after converts.due (quiet refl) converts.done counted refl none_made refl
-  stepped Moved new after same goes converts rows quiet counted made =
+      → (is_work progress ≡ false → new ≡ disk) → Does facts before (seen facts new after count) Convert (Progress progress)
+  stepped Idle new after works converts rows quiet = stood Idle new after converts.due (quiet refl) converts.done works.failures refl none_made refl
+  stepped Waiting new after works converts rows quiet = stood Waiting new after converts.due (quiet refl) converts.done works.failures refl none_made refl
+  stepped Moved new after works converts rows quiet =
       let moves : MovesOn stores after = converts.done in
       let current : after.manifest.current ≡ stores.manifest.current = ap (λ (s : EngineState). s.manifest.current) moves.is in
       let work : after.converting ≡ Some moves.conversion = ap (λ (s : EngineState). s.converting) moves.is in
       let on : ConvertGoesOn stores.manifest.shape.hashes stores.manifest.current (convert_work stores.converting) (convert_work after.converting) =
       rw work (goes_on stores stores.converting moves.conversion moves.step) in
-      advanced facts disk new stores after same stands [] count count Convert (Progress Moved) goes refl refl refl refl
-      (refl, converts.due ∙ sym due_same, (current, on), counted) (λ m to e. e) (λ _ _. current) (λ other. absurd (cc))
-      (λ _. ap (λ (s : EngineState). s.merging) moves.is) (λ _. tt) counted (made_due Moved new converts.due made)
-  stepped Finished new after same goes converts rows quiet counted made =
+      advanced facts _ _ _ _ disk new stores after stands Moved works count count Convert (Progress Moved) refl refl refl refl
+      (refl, converts.due ∙ sym due_same, (current, on), works.failures) (λ m to e. e) (λ _ _. current) (λ other. absurd (cc))
+      (λ _. ap (λ (s : EngineState). s.merging) moves.is) (λ _. tt) (made_due Moved new converts.due works.made)
+  stepped Finished new after works converts rows quiet =
       let ends : Finishes stores after = converts.done in
-      advanced facts disk new stores after same stands [] count count Convert (Progress Finished) goes refl refl refl refl (
+      advanced facts _ _ _ _ disk new stores after stands Finished works count count Convert (Progress Finished) refl refl refl refl (
         refl,
         converts.due ∙ sym due_same,
         record {
@@ -86,33 +86,29 @@ module _ {D F : Type 0} (facts : Ghosts D F) (disk : D) (stores : EngineState) (
           body = ends.current;
           rows = λ h. rows_are new after ends.conversion ends.was (rows refl h);
         },
-        counted,
-      )
-      (λ m to e. e) (λ _ unfinished. absurd (cc)) (λ other. absurd (cc)) (λ _. ends.merging) (λ _. tt) counted (made_due Finished new converts.due made)
+        works.failures,
+      ) (λ m to e. e) (λ _ unfinished. absurd (cc)) (λ other. absurd (cc)) (λ _. ends.merging) (λ _. tt) (made_due Finished new converts.due works.made)
 
   -- ---- a step was refused
 
-  pub step_unread : (new : D) (after : EngineState) (fault : F) → after ≡ stores → new ≡ disk → convert_turn stores ≡ Moved → GaveAny facts.gave disk fault
-      → Does facts before (seen facts new after count) Convert (Refused (Device fault))
-  step_unread new after fault same same_disk due given =
-      rw (same_disk, same) (refused facts disk stores count Convert (Device fault) stands refl (inl (due_same ∙ due, record { given = given; working = refl; same = refl })))
+  -- the reply to an error
+  abbrev refusal_of : ConvertError F → Refusal F
+  refusal_of (Read fault) = Device fault
+  refusal_of (Write fault) = Device fault
+  refusal_of error.Spent = Spent
+  refusal_of error.NoMemory = NoMemory
 
-  pub step_spent : (new : D) (after : EngineState) → after ≡ stores → new ≡ disk → convert_turn stores ≡ Finished → IsLastGeneration stores
-      → Does facts before (seen facts new after count) Convert (Refused Spent)
-  step_spent new after same same_disk due last = rw (same_disk, same) (refused facts disk stores count Convert Spent stands refl (refl, due_same ∙ due, last))
+  -- the store that an error leaves
+  abbrev left_by : D → EngineState → ConvertError F → CoreState D
+  left_by new after (Write fault) = seen_failed facts (basis_of (facts.content disk) stores) new after count
+  left_by new after e = seen facts new after count
 
-  pub step_no_memory : (new : D) (after : EngineState) → after ≡ stores → new ≡ disk → convert_turn stores ≡ Moved → stores.converting ≡ None
-      → Does facts before (seen facts new after count) Convert (Refused NoMemory)
-  step_no_memory new after same same_disk due none = rw (same_disk, same) (refused facts disk stores count Convert NoMemory stands refl (refl, due_same ∙ due, ap convert_work none))
-
-  -- a write or a sync failed
-  pub step_broke : (new : D) (after : EngineState) (fault : F) → SameDisk (facts.content disk) (facts.content new)
-      → is_work (convert_turn stores) ≡ true → Breaks (facts.content disk) (facts.content new) stores
-      → Remaps [] (facts.content disk) (facts.content new) stores after → after.manifest.shape ≡ stores.manifest.shape
-      → GaveAny facts.gave new fault → facts.failures new ≡ (facts.failures disk + 1) % 2 ^ 64
-      → MakesAtMost facts.writes facts.syncs (step_writes (convert_turn stores)) (step_syncs (convert_turn stores)) disk new
-      → Does facts before (seen_failed facts (basis_of (facts.content disk) stores) new after count) Convert (Refused (Device fault))
-  step_broke new after fault same work breaks remaps shape given counted most =
-      broke facts disk new stores after same stands count Convert fault breaks shape remaps
-      (inr (ap is_work due_same ∙ work, record { given = given; counted = counted; failed = refl })) counted
-      (subst (λ (p : ProgressOf). MakesAtMost facts.writes facts.syncs (step_writes p) (step_syncs p) disk new) (sym due_same) most)
+  pub not_stepped : (new : D) (after : EngineState) (e : ConvertError F) → Works new after (Err e) → ConvertErrorCause facts disk new stores after e
+      → Does facts before (left_by new after e) Convert (Refused (refusal_of e))
+  not_stepped new after (Read fault) works err =
+      rw (err.1, err.0) (refused facts disk stores count Convert (Device fault) stands refl (inl (due_same ∙ err.2, record { given = err.3; working = refl; same = refl })))
+  not_stepped new after error.Spent works err = rw (err.1, err.0) (refused facts disk stores count Convert Spent stands refl (refl, due_same ∙ err.2, err.3))
+  not_stepped new after error.NoMemory works err = rw (err.1, err.0) (refused facts disk stores count Convert NoMemory stands refl (refl, due_same ∙ err.2, ap convert_work err.3))
+  not_stepped new after (Write fault) works err =
+      broke facts _ _ _ _ disk new stores after stands (Write fault) count Convert fault works err.1 (λ fails. inr (ap is_work due_same ∙ err.0, fails))
+      (subst (λ (p : ProgressOf). MakesAtMost facts.writes facts.syncs (step_writes p) (step_syncs p) disk new) (sym due_same) works.made)

@@ -1,7 +1,6 @@
 -- What the next step of merging reads, in the words of the manifest record.
-use Rattle.silt_store_set.proofs.Common.{◌≡◌, ℕ, ◌+◌, ◌-◌, ◌*◌, ◌<◌, ◌≤◌, nat_lt, if◌then◌else◌, Bool, List, drop, get_or, length}
-use Rattle.silt_store_set.proofs.Common.{Option, Some, None, IfSome, inl, inr, ap, sym, ◌∙◌, subst, arith, cases_lt, length-map, Shape, Place, regions_of}
-use Rattle.silt_store_set.proofs.Common.{MergeState, oldest_stores, steps_of, place_read, IsMerging, EngineState, hash_region_of, merge_work, place_due}
+use Rattle.silt_store_set.proofs.Common.{◌≡◌, ℕ, ◌+◌, ◌-◌, ◌*◌, ◌<◌, ◌≤◌, nat_lt, if◌then◌else◌, Bool, List, drop, get_or, length, Option, IfSome, ap, subst, arith, cases_lt, length-map}
+use Rattle.silt_store_set.proofs.Common.{Shape, Place, regions_of, MergeState, oldest_stores, steps_of, place_read, IsMerging, EngineState, merge_work, place_due}
 use Rattle.std.proofs.Common.{◌/◌}
 use Rattle.std.proofs.lemmas.Bool.{le-ltb, lt-ltb}
 use Rattle.std.proofs.lemmas.List.{drop-map}
@@ -21,9 +20,7 @@ place_of gathers regions store = if gathers then HashDigest (get_or regions stor
 module _ (s : EngineState) (whole : AreWhole s) where
   -- the regions of the oldest hash stores are the last ones that the manifest record names
   regions_taken : (count : ℕ) → regions_of (oldest_stores count s.hashes) ≡ drop (length s.manifest.current.hashed - count) s.manifest.current.hashed
-  regions_taken count =
-      let named : length s.hashes ≡ length s.manifest.current.hashed = sym (length-map s.hashes hash_region_of) ∙ ap length whole.hash_regions in
-      cc (drop-map hash_region_of (length s.hashes - count) s.hashes, whole.hash_regions)
+  regions_taken count = search (arith, length-map, drop-map)
 
   -- a merge gathers as long as it took fewer steps than there are slots, and the number of its store is that of the steps by the slots of a store
   module _ (merge : MergeState) (way : IsMerging s merge) where
@@ -37,24 +34,13 @@ module _ (s : EngineState) (whole : AreWhole s) where
         ≡ place_of (nat_lt (steps_of merge) (merge.stores * slots)) (drop (length s.manifest.current.hashed - merge.stores) s.manifest.current.hashed) (steps_of merge / slots)
     place_gathers below =
         let inside : merge.slot < slots = subst (λ (n : ℕ). merge.slot < n) slots_same way.held.slot in
-        let steps : steps_of merge ≡ merge.store * slots + merge.slot =
-        ap (λ (n : ℕ). merge.store * n + merge.slot + merge.decided) slots_same ∙ omega (arith, way.held.gathers below) in
-        let fewer : steps_of merge < merge.stores * slots = subst (λ (n : ℕ). n < merge.stores * slots) (sym steps) (slot_below merge.store merge.stores merge.slot slots below inside) in
-        let number : steps_of merge / slots ≡ merge.store = ap (λ (n : ℕ). n / slots) steps ∙ div-mul-add merge.store slots merge.slot inside in
-        cc (lt-ltb merge.store merge.stores below, lt-ltb (steps_of merge) (merge.stores * slots) fewer, regions_taken merge.stores)
+        let steps : steps_of merge ≡ merge.store * slots + merge.slot = search (arith, slots_same) in
+        search (arith, slot_below, div-mul-add, lt-ltb, regions_taken)
 
     place_decides : merge.stores ≤ merge.store → place_of (nat_lt merge.store merge.stores) (regions_of (oldest_stores merge.stores s.hashes)) merge.store
         ≡ place_of (nat_lt (steps_of merge) (merge.stores * slots)) (drop (length s.manifest.current.hashed - merge.stores) s.manifest.current.hashed) (steps_of merge / slots)
-    place_decides past =
-        let all : merge.store ≡ merge.stores = omega (arith, past, way.held.store) in
-        let gathered : merge.store * (4 * merge.shape.buckets) ≡ merge.stores * slots = ap (λ (n : ℕ). n * (4 * merge.shape.buckets)) all ∙ ap (λ (n : ℕ). merge.stores * n) slots_same in
-        let more : merge.stores * slots ≤ steps_of merge = omega (arith, gathered) in
-        cc (le-ltb merge.store merge.stores past, le-ltb (steps_of merge) (merge.stores * slots) more)
+    place_decides past = search (arith, slots_same, le-ltb)
 
   -- what a step reads in memory is what is due by the manifest record
   pub place_seen : (o : Option MergeState) → IfSome o (IsMerging s) → place_read s.hashes o ≡ place_due s.manifest.shape s.manifest.current (merge_work o)
-  place_seen None merging = ap (λ (l : List ℕ). HashDigest (get_or l 0 0)) whole.hash_regions
-  place_seen (Some merge) merging = elim (cases_lt merge.store merge.stores) [
-    | inl below ↦ place_gathers merge merging below
-    | inr past ↦ place_decides merge merging past
-  ]
+  place_seen o merging = search (arith, cases_lt, place_gathers, place_decides)

@@ -1,5 +1,6 @@
 -- A store that failed after an acknowledged flush.
-use Rattle.silt_store_set.proofs.Common.{◌≡◌, ℕ, Bool, true, false, IsTrue, List, [], ◌∷◌, ◌++◌, refl, ap, sym, ◌∙◌, Ghosts, Command, map_after, Flush, Acknowledged, CoreState, Does}
+use Rattle.std.proofs.Common.{arith}
+use Rattle.silt_store_set.proofs.Common.{◌≡◌, ℕ, false, List, [], ◌∷◌, ◌++◌, refl, ap, sym, ◌∙◌, Ghosts, Command, map_after, Flush, Acknowledged, CoreState, Does}
 use Rattle.silt_store_set.specs.FailedLaw.{FailedLaw}
 
 -- a beginning of nothing is nothing
@@ -10,12 +11,7 @@ begins_none (c ∷ kept) rest all none is = absurd (let no : c ∷ kept ++ rest 
 module _ {D F : Type 0} (facts : Ghosts D F) where
   -- by an acknowledging reply no store fails
   works_on : (old flushed : CoreState D) (n : ℕ) → Does facts old flushed Flush (Acknowledged n) → flushed.failed ≡ false
-  works_on old flushed n does =
-      let go : (b : Bool) → flushed.failed ≡ b → flushed.failed ≡ false = elim [
-        | false ↦ λ working. working
-        | true ↦ λ fails. absurd (let fault : IsTrue false = does.faulted does.cause.0 fails in cc)
-      ] in
-      go flushed.failed refl
+  works_on old flushed n does = search (arith, does.faulted)
 
   pub failed_law : FailedLaw facts
   failed_law old flushed failed n event reply acknowledges fails is h image begun =

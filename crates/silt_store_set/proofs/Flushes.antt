@@ -1,7 +1,9 @@
 -- What a flush does.
-use Rattle.silt_store_set.proofs.Common.{◌≡◌, ℕ, ◌+◌, ◌*◌, ◌%◌, ◌^◌, [], refl, ap, subst, ◌∙◌, GaveAny, Ghosts, Advances, Breaks, Remaps, SameDisk, Stands}
-use Rattle.silt_store_set.proofs.Common.{waiting_commands, EngineState, Flush, Acknowledged, Refused, basis_of, Makes, MakesAtMost, Does, some_wait}
+use Rattle.silt_store_set.proofs.Common.{◌≡◌, ℕ, ◌*◌, [], refl, ap, subst, ◌∙◌, Ghosts, Stands, waiting_commands, EngineState, Flush, Acknowledged, Refused, basis_of, Makes, MakesAtMost}
+use Rattle.silt_store_set.proofs.Common.{Does, some_wait}
+use Rattle.silt_engine.specs.Calls.{BreaksOff, ChangesOnlyActive, WorksBy}
 use Rattle.silt_engine.specs.Costs.{row_waits}
+use Rattle.std.proofs.Common.{Err, Ok, Result}
 use Rattle.silt_standing.specs.Standing.{IsQuiet}
 use Rattle.silt_event.specs.declared.refusal.Refusal.TheVariants.{Device}
 use Rattle.silt_store_set.proofs.Waits.{all_settled, waits_same}
@@ -12,28 +14,25 @@ module _ {D F : Type 0} (facts : Ghosts D F) (disk : D) (stores : EngineState) (
   waits : row_waits stores ≡ some_wait (waiting_commands (facts.content disk) stores)
   waits = waits_same (facts.content disk) stores stands.active.bounds
 
+  -- what the call of the stores in memory does
+  abbrev Works : {T E : Type 0} → D → EngineState → Result T E → Type 0
+  Works new after result = WorksBy facts (λ _. Makes facts.writes facts.syncs (row_waits stores) (2 * row_waits stores) disk new) [] (row_waits stores) (2 * row_waits
+      stores) disk new stores after result
+
   -- the waiting rows are settled, and if none waits nothing is done
-  pub flushed : (new : D) (after : EngineState) → SameDisk (facts.content disk) (facts.content new)
-      → Advances [] (facts.content disk) (facts.content new) stores after → IsQuiet (facts.content new) after
-      → after.manifest ≡ stores.manifest → after.converting ≡ stores.converting → after.merging ≡ stores.merging → facts.failures new ≡ facts.failures disk
-      → (stores.active.log.settled ≡ stores.active.log.used → (new ≡ disk) × (after ≡ stores))
-      → Makes facts.writes facts.syncs (row_waits stores) (2 * row_waits stores) disk new → Does facts (seen facts disk stores count) (seen facts new after count) Flush (Acknowledged count)
-  flushed new after same goes quiet manifest converting merging counted idle made =
+  pub flushed : {T E : Type 0} (v : T) (new : D) (after : EngineState) → Works {T = T} {E = E} new after (Ok v) → IsQuiet (facts.content new) after → ChangesOnlyActive stores after
+      → (stores.active.log.settled ≡ stores.active.log.used → (new ≡ disk) × (after ≡ stores)) → Does facts (seen facts disk stores count) (seen facts new after count) Flush (Acknowledged count)
+  flushed v new after works quiet others idle =
       let stays : waiting_commands (facts.content disk) stores ≡ [] → seen facts new after count ≡ seen facts disk stores count
       = λ none. let both = idle (all_settled (facts.content disk) stores.active.log stands.active.bounds none) in
       ap (λ (d : D). seen facts d after count) both.0 ∙ ap (λ (s : EngineState). seen facts disk s count) both.1 in
-      advanced facts disk new stores after same stands [] count count Flush (Acknowledged count) goes (refl, refl) refl refl refl
-      (refl, counted, stays) (λ m to e. e)
-      (λ _ _. ap (λ m. m.current) manifest) (λ _. converting) (λ _. merging) (λ _. quiet.none_wait) counted
-      (subst (λ (n : ℕ). Makes facts.writes facts.syncs n (2 * n) disk new) waits made)
+      advanced facts _ _ _ _ disk new stores after stands v works count count Flush (Acknowledged count) (refl, refl) refl refl refl (refl, works.failures, stays) (λ m to e. e) (λ _ _. ap (λ
+      m. m.current) others.manifest) (λ _. others.converting) (λ _. others.merging) (λ _. quiet.none_wait) (subst (λ (n : ℕ). Makes facts.writes facts.syncs n (2 * n) disk new) waits
+      works.made)
 
   -- a sync or the write of the commit bytes failed
-  pub flush_broke : (new : D) (after : EngineState) (fault : F) → SameDisk (facts.content disk) (facts.content new)
-      → Breaks (facts.content disk) (facts.content new) stores → Remaps [] (facts.content disk) (facts.content new) stores after
-      → after.manifest ≡ stores.manifest → GaveAny facts.gave new fault → facts.failures new ≡ (facts.failures disk + 1) % 2 ^ 64
-      → MakesAtMost facts.writes facts.syncs (row_waits stores) (2 * row_waits stores) disk new
+  pub flush_broke : {T : Type 0} (new : D) (after : EngineState) (fault : F) → Works {T = T} new after (Err fault) → BreaksOff facts disk new stores after fault
       → Does facts (seen facts disk stores count) (seen_failed facts (basis_of (facts.content disk) stores) new after count) Flush (Refused (Device fault))
-  flush_broke new after fault same breaks remaps manifest given counted most =
-      broke facts disk new stores after same stands count Flush fault breaks (ap (λ m. m.shape) manifest) remaps
-      (record { given = given; counted = counted; failed = refl }) counted
-      (subst (λ (n : ℕ). MakesAtMost facts.writes facts.syncs n (2 * n) disk new) waits most)
+  flush_broke new after fault works off =
+      broke facts _ _ _ _ disk new stores after stands fault count Flush fault works off (λ fails. fails)
+      (subst (λ (n : ℕ). MakesAtMost facts.writes facts.syncs n (2 * n) disk new) waits works.made)

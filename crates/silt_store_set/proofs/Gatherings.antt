@@ -1,7 +1,7 @@
 -- If a merge is out of memory, the slot that it gathers next has the first row of a key, or the key that it decides next has a value.
-use Rattle.silt_store_set.proofs.Common.{◌≡◌, ℕ, zero, suc, ◌+◌, ◌-◌, ◌*◌, ◌<◌, ◌≤◌, true, IsTrue, List, [], ◌∷◌, ◌++◌, drop, length, map, take, get_or, Option, Some, None, IsSomeAnd, refl, sym}
-use Rattle.silt_store_set.proofs.Common.{subst, ap, ◌∙◌, arith, append_assoc, length-map, Content, Shape, StoredRow, hash_rows, all_rows, Body, regions_of, MergeState, oldest_stores, steps_of}
-use Rattle.silt_store_set.proofs.Common.{GathersRow, TakesKey, full_stores, merge_sources, HasGathered, Stands, IsMerging, EngineState, sources_full, taken_sound}
+use Rattle.silt_store_set.proofs.Common.{◌≡◌, ℕ, zero, suc, ◌+◌, ◌-◌, ◌*◌, ◌<◌, ◌≤◌, true, IsTrue, List, [], ◌∷◌, ◌++◌, drop, length, map, take, get_or, Option, Some, None, IsSomeAnd, refl}
+use Rattle.silt_store_set.proofs.Common.{sym, subst, ap, ◌∙◌, arith, append_assoc, length-map, Content, Shape, StoredRow, hash_rows, all_rows, Body, regions_of, MergeState, oldest_stores}
+use Rattle.silt_store_set.proofs.Common.{steps_of, GathersRow, TakesKey, full_stores, merge_sources, HasGathered, Stands, IsMerging, EngineState, sources_full, taken_sound}
 use Rattle.std.proofs.Common.{filter, flat_map, slice_get, suc-mul}
 use Rattle.std.specs.Option.{option_or}
 use Rattle.std.proofs.lemmas.List.{length-append, take-append-drop}
@@ -15,7 +15,7 @@ use Rattle.silt_hash_store.specs.State.{HashState}
 use Rattle.silt_hash_store.proofs.Slotting.{all_before, before_count, before_more, before_taken}
 use Rattle.silt_image.specs.Meaning.{with_log_rows}
 use Rattle.silt_image.specs.Stores.{stores_named}
-use Rattle.silt_log.specs.Parts.{known_rows, part_rows}
+use Rattle.silt_log.specs.Parts.{part_rows}
 use Rattle.silt_merge.specs.Merging.{IsMergedIn, gathered_rows}
 use Rattle.silt_merge.specs.Rows.{newest_rows, rows_of_hashes}
 use Rattle.silt_merge.specs.State.{source_at}
@@ -41,20 +41,14 @@ module _ {X : Type 0} where
   lists_long f each all [] zero most = omega arith
   lists_long f each all [] (suc k) most = absurd (omega arith)
   lists_long f each all (n ∷ ns) zero most = omega arith
-  lists_long f each all (n ∷ ns) (suc k) most =
-      omega (arith, length-append (f n) (flat_map f (take k ns)), all n, lists_long f each all ns k (omega arith), suc-mul k each)
+  lists_long f each all (n ∷ ns) (suc k) most = omega (arith, length-append (f n) (flat_map f (take k ns)), all n, lists_long f each all ns k (omega arith), suc-mul k each)
 
   -- an element of one of the lists comes behind the lists before, and behind the elements before it
   stands_behind : (f : ℕ → List X) (ns : List ℕ) (k d : ℕ) (before : List X) (x : X) (rest : List X) → k < length ns → f (get_or ns k d) ≡ before ++ x ∷ rest
       → (behind : List X) × (flat_map f ns ≡ (flat_map f (take k ns) ++ before) ++ x ∷ behind)
   stands_behind f [] k d before x rest below is = absurd (omega arith)
   stands_behind f (n ∷ ns) zero d before x rest below is = (rest ++ flat_map f ns, ap (λ l. l ++ flat_map f ns) is ∙ append_assoc before (x ∷ rest) (flat_map f ns))
-  stands_behind f (n ∷ ns) (suc k) d before x rest below is =
-      let next = stands_behind f ns k d before x rest (omega arith) is in
-      let front : List X = flat_map f (take k ns) in (
-        next.0,
-        ap (λ l. f n ++ l) next.1 ∙ sym (append_assoc (f n) (front ++ before) (x ∷ next.0)) ∙ ap (λ l. l ++ x ∷ next.0) (sym (append_assoc (f n) front before)),
-      )
+  stands_behind f (n ∷ ns) (suc k) d before x rest below is = search (arith, stands_behind f ns k d before x rest, append_assoc)
 
 -- ---- keys that no row has
 
@@ -66,9 +60,7 @@ none_of_both (Some x) p none = absurd (cc)
 module _ (key : List ℕ) where
   -- no row of either part
   none_apart : (older newer : List StoredRow) → newest_row (older ++ newer) key ≡ None → (newest_row older key ≡ None) × (newest_row newer key ≡ None)
-  none_apart older newer none =
-      let both = none_of_both (newest_row newer key) (newest_row older key) (sym (newest_append older newer key) ∙ none) in
-      (both.1, both.0)
+  none_apart older newer none = search (arith, none_of_both, newest_append)
 
   -- if neither part has a row of the key, both together have none
   none_together : (older newer : List StoredRow) → newest_row older key ≡ None → newest_row newer key ≡ None → newest_row (older ++ newer) key ≡ None
@@ -105,23 +97,17 @@ module _ (s : Shape) (image : List ℕ) where
   -- a key that no row of stores has, no slot of them has
   none_in : (key : List ℕ) (regions : List ℕ) → newest_row (rows_of_hashes s image regions) key ≡ None → newest_row (filter has_known_kind (slots_in regions)) key ≡ None
   none_in key [] none = none
-  none_in key (region ∷ regions) none =
-      let both = none_apart key (rows_of_hashes s image regions) (known_rows (hash_part s image region)) none in
-      none_known key (hash_rows s region image) (slots_in regions) both.1 (none_in key regions both.0)
+  none_in key (region ∷ regions) none = search (arith, none_in key regions, none_apart, none_known)
 
   -- a key that no gathered row has, no slot before has
   none_before : (key : List ℕ) (regions : List ℕ) (store slot : ℕ) → newest_row (gathered_rows s image regions store slot) key ≡ None
       → newest_row (filter has_known_kind (slots_in (take store regions) ++ rows_before s (get_or regions store 0) image slot)) key ≡ None
   unfolding gathered_rows
-  none_before key regions store slot none =
-      let own : List StoredRow = filter has_known_kind (rows_before s (get_or regions store 0) image slot) in
-      let both = none_apart key own (rows_of_hashes s image (take store regions)) none in
-      none_known key (slots_in (take store regions)) (rows_before s (get_or regions store 0) image slot) (none_in key (take store regions) both.1) both.0
+  none_before key regions store slot none = search (arith, none_apart, none_known, none_in)
 
   -- the slot that is gathered next
   next_slot : (regions : List ℕ) (store slot steps : ℕ) → store < length regions → slot < 4 * s.buckets → steps ≡ store * (4 * s.buckets) + slot
-      → has_known_kind (slot_row s (get_or regions store 0) image slot) ≡ true
-      → newest_row (gathered_rows s image regions store slot) (slot_row s (get_or regions store 0) image slot).key ≡ None
+      → has_known_kind (slot_row s (get_or regions store 0) image slot) ≡ true → newest_row (gathered_rows s image regions store slot) (slot_row s (get_or regions store 0) image slot).key ≡ None
       → HasNewKey (slots_in regions) steps
   next_slot regions store slot steps below inside is known none =
       let region : ℕ = get_or regions store 0 in
@@ -129,20 +115,12 @@ module _ (s : Shape) (image : List ℕ) where
       let before : List StoredRow = slots_in (take store regions) ++ rows_before s region image slot in
       let all = stands_behind (λ (r : ℕ). hash_rows s r image) regions store 0 (rows_before s region image slot) row
       (drop (slot + 1) (hash_rows s region image)) below (row_behind region slot inside) in
-      let long : length before ≡ steps =
-      omega (
-        arith,
-        length-append (slots_in (take store regions)) (rows_before s region image slot),
-        lists_long (λ (r : ℕ). hash_rows s r image) (4 * s.buckets) region_long regions store (omega (arith, below)),
-        before_count s region image slot,
-        is,
-      ) in
+      let long : length before ≡ steps = search (arith, length-append, lists_long, region_long, before_count) in
       record {
         row = row;
-        next = ap (λ (l : List StoredRow). slice_get l steps) all.1 ∙ next_there before row all.0 steps long;
+        next = cc (all.1, next_there before row all.0 steps long);
         known = known;
-        new_key =
-            cc (all.1, first_there before (row ∷ all.0) steps long, none_before row.key regions store slot none);
+        new_key = cc (all.1, first_there before (row ∷ all.0) steps long, none_before row.key regions store slot none);
       }
 
 -- ---- a merge in progress
@@ -160,20 +138,18 @@ module _ (content : Content) (s : EngineState) (stands : Stands content s) (hone
   slots_taken count =
       let same : (full_stores content s).hashes ≡ map (hash_part s.manifest.shape content.shown) s.manifest.current.hashed =
       cc (full_is content s stands honest, hashes_with s.manifest.current.active (all_rows content s.active.log) s.manifest.shape s.manifest.current content.shown) in
-      ap (λ l. flat_map part_rows (drop (length l - count) l)) same
-      ∙ ap (flat_map part_rows) (taken_named s.manifest.shape content.shown s.manifest.current.hashed s.hashes count stands.whole.hash_regions)
-      ∙ parts_slots s.manifest.shape content.shown (regions_of (oldest_stores count s.hashes))
+      cc (
+        taken_named s.manifest.shape content.shown s.manifest.current.hashed s.hashes count stands.whole.hash_regions,
+        parts_slots s.manifest.shape content.shown (regions_of (oldest_stores count s.hashes)),
+      )
 
   -- the key that a merge decides next has a value, if its entry needs memory
   pub decides_next : (merge : MergeState) → IsMerging s merge → HasGathered content s merge → TakesKey content (oldest_stores merge.stores s.hashes) s.sorted merge
       → IsSomeAnd (slice_get (newest_rows (merge_sources merge.stores (full_stores content s))) (steps_of merge - merge.stores * (4 * s.manifest.shape.buckets))) (λ row. is_put_row row ≡ true)
   decides_next merge way merged takes =
-      let slots : merge.store * (4 * merge.shape.buckets) ≡ merge.stores * (4 * s.manifest.shape.buckets) =
-      ap (λ (n : ℕ). n * (4 * merge.shape.buckets)) takes.gathered ∙ ap (λ (sh : Shape). merge.stores * (4 * sh.buckets)) way.has_shape in
+      let slots : merge.store * (4 * merge.shape.buckets) ≡ merge.stores * (4 * s.manifest.shape.buckets) = cc (takes.gathered, way.has_shape) in
       let decided : merge.decided ≡ steps_of merge - merge.stores * (4 * s.manifest.shape.buckets) = omega (arith, slots, way.held.ended takes.gathered) in
-      subst (λ (n : ℕ). IsSomeAnd (slice_get (newest_rows (merge_sources merge.stores (full_stores content s))) n) (λ row. is_put_row row ≡ true)) decided
-      (subst (λ (rows : List StoredRow). IsSomeAnd (slice_get (newest_rows rows) merge.decided) (λ row. is_put_row row ≡ true)) (sym (sources_full content s stands honest merge.stores))
-      (takes.puts honest merged.0 (taken_sound content s stands honest merge.stores)))
+      rw (← (sources_full content s stands honest merge.stores), decided) at (takes.puts honest merged.0 (taken_sound content s stands honest merge.stores))
 
   module _ (merge : MergeState) (way : IsMerging s merge) (merged : HasGathered content s merge) (takes : GathersRow content (oldest_stores merge.stores s.hashes) merge) where
     abbrev stores : List HashState
@@ -200,8 +176,7 @@ module _ (content : Content) (s : EngineState) (stands : Stands content s) (hone
         let long : length regions ≡ merge.stores = length-map stores (λ store. store.region) ∙ merged.0.counted in
         let steps : steps_of merge ≡ merge.store * (4 * s.manifest.shape.buckets) + merge.slot =
         omega (arith, way.held.gathers takes.gathers, ap (λ (sh : Shape). merge.store * (4 * sh.buckets)) way.has_shape) in
-        subst (λ (l : List StoredRow). HasNewKey l (steps_of merge)) (sym (slots_taken merge.stores))
-        (next_slot s.manifest.shape content.shown regions merge.store merge.slot (steps_of merge) (omega (arith, takes.gathers, long))
-        (subst (λ (sh : Shape). merge.slot < 4 * sh.buckets) way.has_shape way.held.slot) steps
-        (subst (λ (sh : Shape). has_known_kind (due_in sh) ≡ true) way.has_shape (takes.known honest))
-        (none_gathered (due_in s.manifest.shape).key (subst (λ (sh : Shape). source_at merge.waiting (due_in sh).key ≡ None) way.has_shape (takes.new_key honest))))
+        rw (← (slots_taken merge.stores)) at (next_slot s.manifest.shape content.shown regions merge.store merge.slot (steps_of merge)
+        (omega (arith, takes.gathers, long)) (subst (λ (sh : Shape). merge.slot < 4 * sh.buckets) way.has_shape way.held.slot) steps (subst (λ (sh : Shape).
+        has_known_kind (due_in sh) ≡ true) way.has_shape (takes.known honest)) (none_gathered (due_in s.manifest.shape).key (subst (λ (sh : Shape). source_at
+        merge.waiting (due_in sh).key ≡ None) way.has_shape (takes.new_key honest))))

@@ -36,8 +36,7 @@ module _ {D F : Type 0} (facts : Ghosts D F) (disk : D) (stores : EngineState) (
 
   -- if no waiting command changes the key, the base has what the map has
   kept : (value : Option (List ℕ)) → changes_key (waiting_commands (facts.content disk) stores) key.0 ≡ false → IsTrue (facts.content disk).honest
-      → get (current_map (facts.content disk) stores) key.0 ≡ value
-      → get (image_map (facts.content disk).shown) key.0 ≡ value
+      → get (current_map (facts.content disk) stores) key.0 ≡ value → get (image_map (facts.content disk).shown) key.0 ≡ value
   kept value none h found =
       cc ((meaning (facts.content disk) stores stands).shown h, others_stay (base_map (facts.content disk) stores) (waiting_commands (facts.content disk) stores) key.0 none)
 
@@ -55,9 +54,7 @@ module _ {D F : Type 0} (facts : Ghosts D F) (disk : D) (stores : EngineState) (
 
   -- a value was not read
   pub get_refused : (refusal : Refusal F) (value : List ℕ) → (IsTrue (facts.content disk).honest → get (current_map (facts.content disk) stores) key.0 ≡ Some value)
-      → ReadCause (GaveAny facts.gave disk) refusal
-      → Does facts (seen facts disk stores count) (seen facts disk stores count) (Get key) (Refused refusal)
+      → ReadCause (GaveAny facts.gave disk) refusal → Does facts (seen facts disk stores count) (seen facts disk stores count) (Get key) (Refused refusal)
   get_refused (Device fault) value found given = get_faulted fault given
-  get_refused NoMemory value found none =
-      refused facts disk stores count (Get key) NoMemory stands refl (refl, λ h. (value, looked_up (Some value) found h))
+  get_refused NoMemory value found none = refused facts disk stores count (Get key) NoMemory stands refl (refl, λ h. (value, looked_up (Some value) found h))
   get_refused refusal value found cause = absurd cause

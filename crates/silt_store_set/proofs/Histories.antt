@@ -1,11 +1,10 @@
 -- Lives, from their openings, runs and crashes.
-use Rattle.silt_store_set.proofs.Common.{◌≡◌, ℕ, ◌+◌, inl, inr, false, IsTrue, List, [], ◌∷◌, ◌++◌, length, Vec, refl, ap, sym, ◌∙◌, subst, arith, Global, Content, Left, LeavesOnly, Restarts, Shape}
-use Rattle.silt_store_set.proofs.Common.{Event, LifeReply, NotOpened, Opened, Refusal, Reply, Command, Map, map_after, Legal, accepted_commands, LivesHistory, CoreState, map_of, Runs, Opens, IsSafe}
-use Rattle.silt_store_set.proofs.Common.{Ghosts, StandsFor, SameDisk, LeavesNoOther, OpeningCause}
+use Rattle.silt_store_set.proofs.Common.{◌≡◌, ℕ, ◌+◌, false, IsTrue, List, [], ◌∷◌, ◌++◌, length, Vec, refl, ap, sym, ◌∙◌, subst, arith, Global, Content, Left, LeavesOnly, Restarts, Shape}
+use Rattle.silt_store_set.proofs.Common.{Event, LifeReply, NotOpened, Opened, Refusal, Reply, Map, map_after, LivesHistory, CoreState, map_of, Runs, Opens, IsSafe, Ghosts, StandsFor}
+use Rattle.silt_store_set.proofs.Common.{SameDisk, LeavesNoOther, OpeningCause}
 use Rattle.silt_disk.proofs.Images.{shown_left, left_at_rest}
 use Rattle.silt_event.specs.declared.refusal.Refusal.TheVariants.{NoMemory}
 use Rattle.silt_event.specs.Events.{LifeHistory}
-use Rattle.silt_disk.specs.Header.{shape_of}
 use Rattle.silt_store_set.proofs.Keeps.{keeps_runs, nines}
 use Rattle.silt_store_set.proofs.Openings.{opening_refused}
 use Rattle.silt_store_set.proofs.Runs.{legal_runs}
@@ -22,11 +21,7 @@ restarted value_len m old new restarts safe = record {
 
 -- an image that represents the map of a store of this shape is safe
 stands_safe : (value_len : ℕ) (shape : Shape) (m : Map) (image : List ℕ) → shape.value_len ≡ value_len → StandsFor shape m image → IsSafe value_len m image
-stands_safe value_len shape m image same stands = record {
-  good = stands.good;
-  has_len = ap (λ (s : Shape). s.value_len) stands.has_shape ∙ same;
-  has_map = stands.has_map;
-}
+stands_safe value_len shape m image same stands = search arith
 
 module _ {D F : Type 0} (facts : Ghosts D F) (old : Content) (value_len : ℕ) (m : Map) (h : IsTrue old.honest) (safe : LeavesOnly old (IsSafe value_len m)) (events : List Event) where
   shown_safe : IsSafe value_len m old.shown
@@ -38,10 +33,7 @@ module _ {D F : Type 0} (facts : Ghosts D F) (old : Content) (value_len : ℕ) (
   life_unopened disk refusal new leaves cause restarts = (
     m,
     (opening_refused facts old disk refusal h shown_safe.good cause, refl),
-    restarted value_len m (facts.content disk) new restarts (λ honest image left. elim (leaves.each honest image left) [
-      | inl was ↦ safe.each h image was
-      | inr stands ↦ stands_safe value_len (shape_of old.shown) m image shown_safe.has_len (subst (λ (n : Map). StandsFor (shape_of old.shown) n image) shown_safe.has_map stands)
-    ]),
+    restarted value_len m (facts.content disk) new restarts (search (arith, stands_safe, shown_safe, leaves.each)),
   )
 
   -- the store has values of this length
@@ -54,8 +46,8 @@ module _ {D F : Type 0} (facts : Ghosts D F) (old : Content) (value_len : ℕ) (
   life_idle core new opens restarts = (
     m,
     (tt, refl),
-    restarted value_len m (facts.content core.disk) new restarts (λ honest image left.
-        stands_safe value_len core.shape m image (opened_len core opens) (subst (λ (n : Map). StandsFor core.shape n image) (opens.base h ∙ shown_safe.has_map) (opens.safe.each honest image left))),
+    restarted value_len m (facts.content core.disk) new restarts (λ honest image left. stands_safe value_len core.shape m image (opened_len core opens) (subst (λ (n : Map). StandsFor
+        core.shape n image) (opens.base h ∙ shown_safe.has_map) (opens.safe.each honest image left))),
   )
 
   -- a store that was opened and did its events
@@ -75,25 +67,20 @@ module _ {D F : Type 0} (facts : Ghosts D F) (old : Content) (value_len : ℕ) (
           after.count,
           map_of after,
           kept.0,
-          subst (λ (n : Map). Legal 0 n events replies.items after.count (map_of after)) start
-              (subst (λ (c : ℕ). Legal c (map_of core) events replies.items after.count (map_of after)) opens.count legal),
+          search arith,
           record {
-            begins = record { rest = kept.1.begins.rest; is = kept.1.begins.is ∙ ap (λ (cs : List Command). cs ++ accepted_commands events replies.items) none };
+            begins = search arith;
             acknowledged = let settled : 0 + length core.waiting ≡ core.count = omega (arith, ap length none, opens.count) in omega (arith, kept.1.acknowledged 0 settled);
           },
           nines facts core after events replies.items false opens.working runs,
           refl,
         ),
-        record {
-          each = λ honest image left.
-              subst (IsSafe value_len (map_after m kept.0)) (sym (left_at_rest restarts.rests honest image left))
-              (stands_safe value_len core.shape (map_after m kept.0) new.shown (opened_len core opens) (subst (λ (n : Map). StandsFor core.shape (map_after n kept.0) new.shown) base kept.2));
-        },
+        record { each = search (arith, left_at_rest, stands_safe, opened_len) },
       )
 
 -- one more life makes a longer history
 pub lives_more : {F : Type 0} (m : Map) (lives : List (Vec Event Global)) (replies : List (LifeReply F)) (to next : Map) (life : Vec Event Global) (reply : LifeReply F)
     → LivesHistory m lives replies to → LifeHistory to life.items reply next → LivesHistory m (lives ++ life ∷ []) (replies ++ reply ∷ []) next
-lives_more m [] [] to next life reply before one = (next, subst (λ (n : Map). LifeHistory n life.items reply next) before one, refl)
+lives_more m [] [] to next life reply before one = (next, rw before at one, refl)
 lives_more m (l ∷ lives) (r ∷ replies) to next life reply before one = (before.0, before.1, lives_more before.0 lives replies to next life reply before.2 one)
 lives_more m lives replies to next life reply before one = absurd before

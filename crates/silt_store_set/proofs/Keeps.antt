@@ -1,7 +1,7 @@
 -- What a crash keeps of a run.
-use Rattle.silt_store_set.proofs.Common.{◌≡◌, ◌≤◌, ℕ, ◌+◌, ◌||◌, Bool, true, false, IsTrue, List, [], ◌∷◌, ◌++◌, length, Some, None, refl, ap, sym, ◌∙◌, subst, arith, append_assoc, Left, LeavesOnly}
-use Rattle.silt_store_set.proofs.Common.{Shape, Ghosts, StandsFor, Event, Put, Delete, Swap, Flush, Get, Convert, Merge, Failed, Reply, Accepted, Acknowledged, Found, Absent, Differs, Progress}
-use Rattle.silt_store_set.proofs.Common.{Refused, Command, Map, map_after, Counts, accepted_command, accepted_commands, is_failed, CoreState, Cause, Does, Runs, Durable}
+use Rattle.silt_store_set.proofs.Common.{◌≡◌, ◌≤◌, ℕ, ◌+◌, ◌||◌, Bool, true, false, IsTrue, List, [], ◌∷◌, ◌++◌, length, refl, ap, sym, ◌∙◌, subst, arith, append_assoc, Left, LeavesOnly}
+use Rattle.silt_store_set.proofs.Common.{Ghosts, StandsFor, Event, Failed, Reply, Acknowledged, Refused, Command, Counts, accepted_command, accepted_commands, is_failed, CoreState, Cause}
+use Rattle.silt_store_set.proofs.Common.{Does, Runs, Durable}
 use Rattle.std.proofs.Common.{length-append}
 use Rattle.silt_event.specs.Events.{acknowledged_by, acknowledged_after, is_fault, FailsAfterFault}
 use Rattle.silt_store_set.specs.CoreState.{StandsKept}
@@ -17,19 +17,7 @@ or_true false = refl
 -- as many commands are counted as an event adds
 pub own_counts : {D F : Type 0} (facts : Ghosts D F) (old new : CoreState D) (event : Event) (reply : Reply F) (c d : ℕ)
     → Cause facts old new event reply → Counts c reply d → d ≡ c + length (accepted_command event reply)
-own_counts facts old new (Put key value) (Accepted n) c d cause counts = counts.1
-own_counts facts old new (Delete key) (Accepted n) c d cause counts = counts.1
-own_counts facts old new (Swap key expected value) (Accepted n) c d cause counts = counts.1
-own_counts facts old new (Swap key expected value) Differs c d cause counts = omega (arith, counts)
-own_counts facts old new Flush (Acknowledged n) c d cause counts = omega (arith, counts.1)
-own_counts facts old new (Get key) (Found v) c d cause counts = omega (arith, counts)
-own_counts facts old new (Get key) Absent c d cause counts = omega (arith, counts)
-own_counts facts old new Convert (Progress p) c d cause counts = omega (arith, counts)
-own_counts facts old new Merge (Progress p) c d cause counts = omega (arith, counts)
-own_counts facts old new event (Refused refusal) c d cause counts = omega (arith, counts, ap length (none_refused event refusal))
-own_counts facts old new (Swap key expected (Some value)) reply c d cause counts = absurd cause.1
-own_counts facts old new (Swap key expected None) reply c d cause counts = absurd cause.1
-own_counts facts old new event reply c d cause counts = absurd cause
+own_counts facts old new event reply c d cause counts = search arith
 
 -- more that was acknowledged before is more after
 acknowledged_more : {F : Type 0} (a b : ℕ) (replies : List (Reply F)) → a ≤ b → acknowledged_after a replies ≤ acknowledged_after b replies
@@ -81,8 +69,7 @@ nines facts old new events replies before working runs = absurd runs
 -- what was acknowledged by one reply is settled after it
 acknowledged_one : {D F : Type 0} (old next : CoreState D) (reply : Reply F) (settled moved : ℕ) → Counts old.count reply next.count
     → Durable next reply → settled + moved + length next.waiting ≡ next.count → acknowledged_by settled reply ≤ settled + moved
-acknowledged_one old next (Acknowledged n) settled moved counts none sum = omega (arith, counts.0, counts.1, ap length none)
-acknowledged_one old next reply settled moved counts none sum = omega arith
+acknowledged_one old next reply settled moved counts none sum = search arith
 
 -- a fault acknowledges nothing and adds nothing
 pub fault_adds : {F : Type 0} (event : Event) (reply : Reply F) → IsTrue (is_fault reply) → (accepted_command event reply ≡ []) × ((n : ℕ) → acknowledged_by n reply ≡ n)
@@ -91,14 +78,13 @@ fault_adds event reply fault = absurd (cc)
 
 module _ {D F : Type 0} (facts : Ghosts D F) where
   -- the first call did not fail
-  keeps_on : (old next : CoreState D) (event : Event) (reply : Reply F) (events : List Event) (replies : List (Reply F)) (image : List ℕ)
-      → old.failed ≡ false → next.failed ≡ false → IsTrue (facts.content old.disk).honest
-      → Does facts old next event reply → StandsKept next events replies image → StandsKept old (event ∷ events) (reply ∷ replies) image
+  keeps_on : (old next : CoreState D) (event : Event) (reply : Reply F) (events : List Event) (replies : List (Reply F)) (image : List ℕ) → old.failed ≡ false → next.failed ≡ false
+      → IsTrue (facts.content old.disk).honest → Does facts old next event reply → StandsKept next events replies image → StandsKept old (event ∷ events) (reply ∷ replies) image
   keeps_on old next event reply events replies image working goes h does kept =
       let moves = does.moves goes h in
       let own : List Command = accepted_command event reply in
       let more : List Command = accepted_commands events replies in
-      let counts : next.count ≡ old.count + length own = own_counts facts old next event reply old.count next.count does.cause does.counts in
+      let counts = own_counts facts old next event reply _ _ does.cause does.counts in
       let waits : length moves.moved + length next.waiting ≡ length old.waiting + length own = sym (length-append moves.moved next.waiting) ∙ ap length moves.rest ∙ length-append old.waiting own in (
         moves.moved ++ kept.0,
         record {
@@ -108,7 +94,7 @@ module _ {D F : Type 0} (facts : Ghosts D F) where
           };
           acknowledged = λ settled sum.
               let now : settled + length moves.moved + length next.waiting ≡ next.count = omega (arith, waits, counts, sum) in
-              let one = acknowledged_one old next reply settled (length moves.moved) does.counts (does.settles h) now in
+              let one = acknowledged_one old next reply _ _ does.counts (does.settles h) now in
               omega (
                 arith,
                 acknowledged_more (acknowledged_by settled reply) (settled + length moves.moved) replies one,
@@ -116,8 +102,7 @@ module _ {D F : Type 0} (facts : Ghosts D F) where
                 length-append moves.moved kept.0,
               );
         },
-        subst (λ (m : Map). StandsFor old.shape m image) (sym (map_after-append old.base moves.moved kept.0))
-            (subst (λ (m : Map). StandsFor old.shape (map_after m kept.0) image) moves.base (subst (λ (s : Shape). StandsFor s (map_after next.base kept.0) image) does.shape kept.2)),
+        rw (does.shape, moves.base, ← (map_after-append old.base moves.moved kept.0)) at kept.2,
       )
 
   -- the first call failed, and so did all after it

@@ -1,10 +1,10 @@
 -- What a step of merging does, from what the same step of the stores in memory does.
-use Rattle.silt_store_set.proofs.Common.{◌≡◌, ◌<◌, ℕ, ◌+◌, ◌-◌, ◌*◌, ◌%◌, ◌^◌, ◌==◌, inl, inr, Bool, false, true, IsTrue, IsSomeAnd, [], length, Option, Some, None, IfSome, refl, ap, sym, ◌∙◌}
-use Rattle.silt_store_set.proofs.Common.{subst, arith, eqb-true, length-map, GaveAny, MakesAtMost, none_made, Shape, Ghosts, Merge, Idle, Waiting, Moved, Finished, Place, Spent, Progress, Refused}
-use Rattle.silt_store_set.proofs.Common.{key_count, MergeState, oldest_stores, steps_of, GathersRow, TakesKey, Advances, Breaks, IsLastGeneration, Remaps, SameDisk, is_work, step_syncs, step_writes}
-use Rattle.silt_store_set.proofs.Common.{damaged_in, full_stores, merge_sources, place_read, HasGathered, Stands, IsMerging, EngineState, hash_region_of, meaning, basis_of, CoreState, Does, MadeFor}
-use Rattle.silt_store_set.proofs.Common.{entries_written, merge_work, place_due}
-use Rattle.std.proofs.Common.{◌⊎◌}
+use Rattle.silt_store_set.proofs.Common.{◌≡◌, ℕ, ◌+◌, ◌-◌, ◌*◌, ◌==◌, inl, inr, Bool, false, true, IsTrue, IsSomeAnd, length, Option, Some, None, IfSome, refl, ap, sym, ◌∙◌, arith, eqb-true}
+use Rattle.silt_store_set.proofs.Common.{length-map, MakesAtMost, none_made, Shape, Ghosts, Merge, Idle, Waiting, Moved, Finished, Place, Spent, Progress, Refused, Refusal, key_count}
+use Rattle.silt_store_set.proofs.Common.{MergeState, oldest_stores, steps_of, GathersRow, TakesKey, IsLastGeneration, is_work, step_syncs, step_writes, damaged_in, full_stores}
+use Rattle.silt_store_set.proofs.Common.{merge_sources, place_read, HasGathered, Stands, IsMerging, EngineState, hash_region_of, meaning, basis_of, CoreState, Does, MadeFor, entries_written}
+use Rattle.silt_store_set.proofs.Common.{merge_work, place_due}
+use Rattle.std.proofs.Common.{◌⊎◌, Err, Ok, Result}
 use Rattle.std.specs.Option.{option_map}
 use Rattle.std.proofs.lemmas.Bool.{cases_Bool, eq-eqb}
 use Rattle.silt_disk.proofs.Costs.{most_more}
@@ -14,7 +14,11 @@ use Rattle.silt_merge.specs.Rows.{merged_rows}
 use Rattle.silt_merge.specs.State.{is_done}
 use Rattle.silt_merge.specs.Steps.{TakesMemory}
 use Rattle.silt_engine.specs.Costs as engine
-use Rattle.silt_engine.specs.Merge.{EndsMerged, HasMergedEntries, IsDoneBySteps, IsNextMerge, MayLackMemory, Merges, MergesOn, merge_progress, merge_turn, merged_body}
+use Rattle.silt_engine.specs.declared.merge.MergeError.{MergeError}
+use Rattle.silt_engine.specs.declared.merge.MergeError.TheVariants.{Read, Write}
+use Rattle.silt_engine.specs.declared.merge.MergeError.TheVariants as error
+use Rattle.silt_engine.specs.Merge.{EndsMerged, HasMergedEntries, IsDoneBySteps, IsNextMerge, MayLackMemory, MergeErrorCause, Merges, MergesOn, WorksOfMerge, merge_progress, merge_turn}
+use Rattle.silt_engine.specs.Merge.{merged_body}
 use Rattle.silt_store_set.specs.CoreState.{DecidesValue, GathersNewKey, GathersNext, IsMergeDue, MergeGoesOn, MergeLacksMemory, MayFind, found_damaged, has_decided, merge_due}
 use Rattle.silt_store_set.proofs.Calls.{seen, seen_failed, advanced, answered, broke, refused}
 use Rattle.silt_store_set.proofs.Damages.{place_seen, slot_below}
@@ -22,11 +26,7 @@ use Rattle.silt_store_set.proofs.Gatherings.{decides_next, new_key_next}
 
 -- a test is equality if it is true exactly when the two numbers are the same
 tells_same : (a b : ℕ) (c : Bool) → (c ≡ true → a ≡ b) → (a ≡ b → c ≡ true) → (a == b) ≡ c
-tells_same a b true gives takes = eq-eqb a b (gives refl)
-tells_same a b false gives takes = elim (cases_Bool (a == b)) [
-  | inl same ↦ absurd (let no : false ≡ true = takes (eqb-true a b same) in cc)
-  | inr other ↦ other
-]
+tells_same a b c gives takes = search (arith, eq-eqb, cases_Bool, eqb-true)
 
 -- if a merge is in progress there is work
 some_work : (hashes : ℕ) (done : Bool) → is_work (merge_progress hashes (Some done)) ≡ true
@@ -76,9 +76,7 @@ module _ {D F : Type 0} (facts : Ghosts D F) (disk : D) (stores : EngineState) (
 
   -- on an honest disk, the next step is the same in memory and by the manifest record
   due_same : IsTrue (facts.content disk).honest → merge_due before ≡ merge_turn stores
-  due_same h =
-      ap (λ (n : ℕ). merge_progress n (option_map (has_decided before) (merge_work stores.merging))) (sym hash_count)
-      ∙ ap (merge_progress (length stores.hashes)) (decided_same stores.merging stands.whole.merging ((meaning (facts.content disk) stores stands).merging h))
+  due_same h = cc (hash_count, decided_same stores.merging stands.whole.merging ((meaning (facts.content disk) stores stands).merging h))
 
   both_work : (o : Option MergeState)
       → is_work (merge_progress (length stores.hashes) (option_map (has_decided before) (merge_work o))) ≡ is_work
@@ -88,9 +86,7 @@ module _ {D F : Type 0} (facts : Ghosts D F) (disk : D) (stores : EngineState) (
 
   -- on any disk, there is work in memory exactly if there is by the manifest record
   pub work_same : is_work (merge_due before) ≡ is_work (merge_turn stores)
-  work_same =
-      ap (λ (n : ℕ). is_work (merge_progress n (option_map (has_decided before) (merge_work stores.merging)))) (sym hash_count)
-      ∙ both_work stores.merging
+  work_same = ap (λ (n : ℕ). is_work (merge_progress n (option_map (has_decided before) (merge_work stores.merging)))) (sym hash_count) ∙ both_work stores.merging
 
   -- what a step finds, in the contracts' view
   finds_seen : (merge : MergeState) → (merge.damaged ≡ None) ⊎ (merge.damaged ≡ Some (place_read stores.hashes stores.merging))
@@ -105,6 +101,9 @@ module _ {D F : Type 0} (facts : Ghosts D F) (disk : D) (stores : EngineState) (
   none_seen : IsSound → found_damaged before.merging ≡ None
   none_seen sound = damage_seen stores.merging ∙ sound
 
+  unfound : ((place : Place) → damaged_in stores.merging ≡ Some place → ⊥) → found_damaged before.merging ≡ None
+  unfound never = none_seen (none_found (damaged_in stores.merging) never)
+
   due : (progress : ProgressOf) → progress ≡ merge_turn stores → IsMergeDue facts before progress
   due progress is = record { work = ap is_work is ∙ sym work_same; exact = λ h. is ∙ sym (due_same h) }
 
@@ -112,16 +111,11 @@ module _ {D F : Type 0} (facts : Ghosts D F) (disk : D) (stores : EngineState) (
 
   -- the merge in progress writes the sorted region that the manifest record does not name
   other_region : (o : Option MergeState) → IfSome o (IsMerging stores) → (merge : MergeState) → o ≡ Some merge → merge.region ≡ 1 - stores.manifest.current.sorted
-  other_region None merging merge was = absurd (cc)
-  other_region (Some same) merging merge was =
-      let is : IsMerging stores merge = subst (λ (p : Option MergeState). IfSome p (IsMerging stores)) was merging in
-      let named : stores.sorted.region ≡ stores.manifest.current.sorted = ap (λ s. s.region) stands.whole.sorted in
-      omega (arith, is.apart, is.held.there, stands.whole.held.region, named)
+  other_region o merging merge was = search arith
 
   entries_are : (new : D) (after : EngineState) (merge : MergeState) → stores.merging ≡ Some merge → HasMergedEntries (facts.content disk) (facts.content new) stores after
       → (full_stores (facts.content new) after).entries ≡ merged_rows (merge_sources merge.stores (full_stores (facts.content disk) stores))
-  entries_are new after merge was has =
-      subst (λ (o : Option MergeState). IfSome o (λ m. (full_stores (facts.content new) after).entries ≡ merged_rows (merge_sources m.stores (full_stores (facts.content disk) stores)))) was has
+  entries_are new after merge was has = search arith
 
   -- a step that goes on has made what contracts see
   moved_made : (new : D) (after : EngineState) → engine.StepMakes facts disk new stores after Moved → MadeFor facts before (seen facts new after count) Merge (Progress Moved)
@@ -132,27 +126,30 @@ module _ {D F : Type 0} (facts : Ghosts D F) (disk : D) (stores : EngineState) (
   few_made Finished new most = most
   few_made progress new most = most_more most (omega arith) (omega arith)
 
-  pub stepped : (progress : ProgressOf) (new : D) (after : EngineState) → SameDisk (facts.content disk) (facts.content new) → Advances [] (facts.content disk) (facts.content new) stores after
-      → Merges progress stores after → (progress ≡ Finished → IsTrue (facts.content disk).honest → HasMergedEntries (facts.content disk) (facts.content new) stores after)
-      → (is_work progress ≡ false → new ≡ disk) → facts.failures new ≡ facts.failures disk → engine.StepMakes facts disk new stores after progress → IsSound
-      → Does facts before (seen facts new after count) Merge (Progress progress)
-  stepped Idle new after same goes merges entries quiet counted made sound =
+  -- what the call of the stores in memory does
+  abbrev Works : D → EngineState → Result ProgressOf (MergeError F) → Type 0
+  Works new after result = WorksOfMerge facts disk new stores after result
+
+  pub stepped : (progress : ProgressOf) (new : D) (after : EngineState) → Works new after (Ok progress) → Merges progress stores after
+      → (progress ≡ Finished → IsTrue (facts.content disk).honest → HasMergedEntries (facts.content disk) (facts.content new) stores after)
+      → (is_work progress ≡ false → new ≡ disk) → IsSound → Does facts before (seen facts new after count) Merge (Progress progress)
+  stepped Idle new after works merges entries quiet sound =
       rw (quiet refl, merges.done) (answered facts disk stores count Merge (Progress Idle) stands refl refl refl
       (refl, due Idle merges.due, refl, refl, none_seen sound) none_made (λ _. refl) (λ _. tt))
-  stepped Waiting new after same goes merges entries quiet counted made sound = absurd merges.done
-  stepped Moved new after same goes merges entries quiet counted made sound =
+  stepped Waiting new after works merges entries quiet sound = absurd merges.done
+  stepped Moved new after works merges entries quiet sound =
       let moves : MergesOn stores after = merges.done in
       let current : after.manifest.current ≡ stores.manifest.current = ap (λ (s : EngineState). s.manifest.current) moves.is in
       let merging : after.merging ≡ Some moves.merge = ap (λ (s : EngineState). s.merging) moves.is in
       let on : MergeGoesOn stores.manifest.current (merge_work stores.merging) (merge_work after.merging) = rw merging (goes_on stores stores.merging moves.merge hash_count moves.step) in
       let finds : MayFind (place_due stores.manifest.shape stores.manifest.current (merge_work stores.merging)) (merge_work after.merging) = rw merging (finds_seen moves.merge moves.found) in
-      advanced facts disk new stores after same stands [] count count Merge (Progress Moved) goes refl refl refl refl
-      (refl, due Moved merges.due, (current, on, finds), counted, none_seen sound) (λ m to e. e) (λ _ _. current)
-      (λ _. ap (λ (s : EngineState). s.converting) moves.is) (λ other. absurd (cc)) (λ _. tt) counted (moved_made new after made)
-  stepped Finished new after same goes merges entries quiet counted made sound =
+      advanced facts _ _ _ _ disk new stores after stands Moved works count count Merge (Progress Moved) refl refl refl refl
+      (refl, due Moved merges.due, (current, on, finds), works.failures, none_seen sound) (λ m to e. e) (λ _ _. current)
+      (λ _. ap (λ (s : EngineState). s.converting) moves.is) (λ other. absurd (cc)) (λ _. tt) (moved_made new after works.made)
+  stepped Finished new after works merges entries quiet sound =
       let ends : EndsMerged stores after = merges.done in
       let region : ends.merge.region ≡ 1 - stores.manifest.current.sorted = other_region stores.merging stands.whole.merging ends.merge ends.was in
-      advanced facts disk new stores after same stands [] count count Merge (Progress Finished) goes refl refl refl refl (
+      advanced facts _ _ _ _ disk new stores after stands Finished works count count Merge (Progress Finished) refl refl refl refl (
         refl,
         due Finished merges.due,
         record {
@@ -162,50 +159,37 @@ module _ {D F : Type 0} (facts : Ghosts D F) (disk : D) (stores : EngineState) (
           body = ends.current ∙ ap (λ (n : ℕ). merged_body stores.manifest.current ends.merge.stores n ends.merge.written) region;
           entries = λ h. entries_are new after ends.merge ends.was (entries refl h);
         },
-        counted,
+        works.failures,
         none_seen sound,
-      )
-      (λ m to e. e) (λ _ unfinished. absurd (cc)) (λ _. ends.converting) (λ other. absurd (cc)) (λ _. tt) counted made
+      ) (λ m to e. e) (λ _ unfinished. absurd (cc)) (λ _. ends.converting) (λ other. absurd (cc)) (λ _. tt) works.made
 
   -- ---- a step was refused
-
-  pub step_unread : (new : D) (after : EngineState) (fault : F) → after ≡ stores → new ≡ disk → merge_turn stores ≡ Moved → GaveAny facts.gave disk fault → IsSound
-      → Does facts before (seen facts new after count) Merge (Refused (Device fault))
-  step_unread new after fault same same_disk turn given sound =
-      rw (same_disk, same) (refused facts disk stores count Merge (Device fault) stands refl (inl (due Moved (sym turn), record { given = given; working = refl; same = refl }), none_seen sound))
-
-  pub step_spent : (new : D) (after : EngineState) → after ≡ stores → new ≡ disk → merge_turn stores ≡ Finished → IsLastGeneration stores → IsSound
-      → Does facts before (seen facts new after count) Merge (Refused Spent)
-  step_spent new after same same_disk turn last sound = rw (same_disk, same) (refused facts disk stores count Merge Spent stands refl (refl, due Finished (sym turn), last, none_seen sound))
 
   -- why a step that goes on is out of memory, in the contracts' view
   abbrev Lacks : Option MergeState → Type 0
   Lacks o =
-      (GathersNext stores.manifest.shape (merge_work o) × (IsTrue (facts.content disk).honest → GathersNewKey before (merge_work o)))
-      ⊎ IsSomeAnd (merge_work o) (DecidesValue facts before)
+      (GathersNext stores.manifest.shape (merge_work o) × (IsTrue (facts.content disk).honest → GathersNewKey before (merge_work o))) ⊎ IsSomeAnd (merge_work o) (DecidesValue facts before)
 
   -- a merge that gathers a slot has not gathered all of them, and what it gathers is the first row of a key
   lacks_row : (merge : MergeState) → IsMerging stores merge → HasGathered (facts.content disk) stores merge
       → GathersRow (facts.content disk) (oldest_stores merge.stores stores.hashes) merge → Lacks (Some merge)
   lacks_row merge merging merged takes =
       let slots : 4 * merge.shape.buckets ≡ 4 * stores.manifest.shape.buckets = ap (λ (s : Shape). 4 * s.buckets) merging.has_shape in
-      let below : merge.store * (4 * merge.shape.buckets) + merge.slot < merge.stores * (4 * merge.shape.buckets) =
-      slot_below merge.store merge.stores merge.slot (4 * merge.shape.buckets) takes.gathers merging.held.slot in
+      let below = slot_below merge.store merge.stores merge.slot (4 * merge.shape.buckets) takes.gathers merging.held.slot in
       inl (
-        subst (λ (n : ℕ). steps_of merge < merge.stores * n) slots (omega (arith, below, merging.held.gathers takes.gathers)),
-        λ h. new_key_next (facts.content disk) stores stands h merge merging merged takes,
+        rw (← slots) (omega (arith, below, merging.held.gathers takes.gathers)),
+        λ h. new_key_next _ stores stands h merge merging merged takes,
       )
 
   -- one that indexes a key has gathered all slots, and the key has a value
   lacks_key : (merge : MergeState) → IsMerging stores merge → HasGathered (facts.content disk) stores merge
       → TakesKey (facts.content disk) (oldest_stores merge.stores stores.hashes) stores.sorted merge → Lacks (Some merge)
   lacks_key merge merging merged takes =
-      let all : merge.store * (4 * merge.shape.buckets) ≡ merge.stores * (4 * stores.manifest.shape.buckets) =
-      ap (λ (n : ℕ). n * (4 * merge.shape.buckets)) takes.gathered ∙ ap (λ (s : Shape). merge.stores * (4 * s.buckets)) merging.has_shape in
+      let all : merge.store * (4 * merge.shape.buckets) ≡ merge.stores * (4 * stores.manifest.shape.buckets) = cc (takes.gathered, merging.has_shape) in
       inr (record {
         gathered = omega (arith, all);
-        room = subst (λ (s : Shape). merge.written < s.sorted_capacity) merging.has_shape takes.room;
-        puts = λ h. decides_next (facts.content disk) stores stands h merge merging merged takes;
+        room = rw merging.has_shape at takes.room;
+        puts = λ h. decides_next _ stores stands h merge merging merged takes;
       })
 
   lacks_next : (o : Option MergeState) → IfSome o (IsMerging stores) → IfSome o (HasGathered (facts.content disk) stores)
@@ -218,29 +202,36 @@ module _ {D F : Type 0} (facts : Ghosts D F) (disk : D) (stores : EngineState) (
   lacks_moved turn (inl gathers) = inl (due Moved (sym turn), gathers.0, gathers.1)
   lacks_moved turn (inr decides) = inr (inl (due Moved (sym turn), decides))
 
-  lacks : ((merge_turn stores ≡ Moved) × MayLackMemory (facts.content disk) stores) ⊎ ((merge_turn stores ≡ Finished) × (IsLastGeneration stores → ⊥))
-      → MergeLacksMemory facts before before
+  lacks : ((merge_turn stores ≡ Moved) × MayLackMemory (facts.content disk) stores) ⊎ ((merge_turn stores ≡ Finished) × (IsLastGeneration stores → ⊥)) → MergeLacksMemory facts before before
   lacks (inl (turn, may)) = lacks_moved turn (lacks_next stores.merging stands.whole.merging stands.merged may)
   lacks (inr (turn, more)) = inr (inr (due Finished (sym turn), more))
 
-  pub step_no_memory : (new : D) (after : EngineState) → after ≡ stores → new ≡ disk
-      → ((merge_turn stores ≡ Moved) × MayLackMemory (facts.content disk) stores) ⊎ ((merge_turn stores ≡ Finished) × (IsLastGeneration stores → ⊥)) → IsSound
-      → Does facts before (seen facts new after count) Merge (Refused NoMemory)
-  step_no_memory new after same same_disk why sound = rw (same_disk, same) (refused facts disk stores count Merge NoMemory stands refl (refl, lacks why, none_seen sound))
+  -- the reply to an error
+  abbrev refusal_of : MergeError F → Refusal F
+  refusal_of (Read fault) = Device fault
+  refusal_of (Write fault) = Device fault
+  refusal_of error.Spent = Spent
+  refusal_of error.NoMemory = NoMemory
+  refusal_of (error.Damaged place) = Damaged place
 
-  pub step_damaged : (new : D) (after : EngineState) (place : Place) → after ≡ stores → new ≡ disk → damaged_in stores.merging ≡ Some place
-      → is_work (merge_turn stores) ≡ true → (IsTrue (facts.content disk).honest → ⊥)
-      → Does facts before (seen facts new after count) Merge (Refused (Damaged place))
-  step_damaged new after place same same_disk found work never =
-      rw (same_disk, same) (refused facts disk stores count Merge (Damaged place) stands refl (refl, work_same ∙ work, damage_seen stores.merging ∙ found, never))
+  -- the store that an error leaves
+  abbrev left_by : D → EngineState → MergeError F → CoreState D
+  left_by new after (Write fault) = seen_failed facts (basis_of (facts.content disk) stores) new after count
+  left_by new after e = seen facts new after count
 
-  -- a write or a sync failed
-  pub step_broke : (new : D) (after : EngineState) (fault : F) → SameDisk (facts.content disk) (facts.content new)
-      → is_work (merge_turn stores) ≡ true → Breaks (facts.content disk) (facts.content new) stores
-      → Remaps [] (facts.content disk) (facts.content new) stores after → after.manifest.shape ≡ stores.manifest.shape
-      → GaveAny facts.gave new fault → facts.failures new ≡ (facts.failures disk + 1) % 2 ^ 64
-      → MakesAtMost facts.writes facts.syncs (step_writes (merge_turn stores)) (step_syncs (merge_turn stores)) disk new → IsSound
-      → Does facts before (seen_failed facts (basis_of (facts.content disk) stores) new after count) Merge (Refused (Device fault))
-  step_broke new after fault same work breaks remaps shape given counted most sound =
-      broke facts disk new stores after same stands count Merge fault breaks shape remaps
-      (inr (work_same ∙ work, record { given = given; counted = counted; failed = refl }), none_seen sound) counted (few_made (merge_turn stores) new most)
+  -- a merge that found a store damaged is refused for that
+  pub not_stepped : (new : D) (after : EngineState) (e : MergeError F) → Works new after (Err e) → MergeErrorCause facts disk new stores after e
+      → ((place : Place) → damaged_in stores.merging ≡ Some place → (let r : Result ProgressOf (MergeError F) = Err e in r) ≡ Err (error.Damaged place))
+      → Does facts before (left_by new after e) Merge (Refused (refusal_of e))
+  not_stepped new after (error.Damaged place) works err stuck =
+      rw (err.1, err.0) (refused facts disk stores count Merge (Damaged place) stands refl (refl, work_same ∙ err.3, damage_seen stores.merging ∙ err.2, err.4))
+  not_stepped new after (Read fault) works err stuck =
+      rw (err.1, err.0) (refused facts disk stores count Merge (Device fault) stands refl
+      (inl (due Moved (sym err.2), record { given = err.3; working = refl; same = refl }), unfound (λ place found. cc (stuck place found))))
+  not_stepped new after error.Spent works err stuck =
+      rw (err.1, err.0) (refused facts disk stores count Merge Spent stands refl (refl, due Finished (sym err.2), err.3, unfound (λ place found. cc (stuck place found))))
+  not_stepped new after error.NoMemory works err stuck =
+      rw (err.1, err.0) (refused facts disk stores count Merge NoMemory stands refl (refl, lacks err.2, unfound (λ place found. cc (stuck place found))))
+  not_stepped new after (Write fault) works err stuck =
+      broke facts _ _ _ _ disk new stores after stands (Write fault) count Merge fault works err.1
+      (λ fails. (inr (work_same ∙ err.0, fails), unfound (λ place found. cc (stuck place found)))) (few_made (merge_turn stores) new works.made)

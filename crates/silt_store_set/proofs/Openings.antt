@@ -1,12 +1,10 @@
 -- What opening returns, from what recovery finds.
-use Rattle.silt_store_set.proofs.Common.{◌≡◌, ◌-◌, IsTrue, [], Option, Some, None, refl, ap, sym, ◌∙◌, arith, Content, Ghosts, map_after, LogState}
-use Rattle.silt_store_set.proofs.Common.{waiting_rows, waiting_commands, EngineState, meaning, Opens, convert_work, merge_work, OpeningCause, Refusal}
+use Rattle.silt_store_set.proofs.Common.{◌≡◌, IsTrue, [], Option, Some, None, refl, ap, sym, ◌∙◌, arith, Content, Ghosts, map_after, LogState, waiting_rows, waiting_commands, EngineState}
+use Rattle.silt_store_set.proofs.Common.{meaning, Opens, convert_work, merge_work, OpeningCause, Refusal}
 use Rattle.silt_image.specs.Meaning.{IsGood}
 use Rattle.silt_log.specs.Rows.{rows_from}
 use Rattle.silt_recovery.specs.Opening.{TakesUp}
-use Rattle.silt_recovery.specs.declared.fault.OpenError.TheVariants.{NotFormatted, Damaged, Crowded, Device, NoMemory}
 use Rattle.silt_event.specs.Events.{IsOpeningRefusal}
-use Rattle.silt_event.specs.declared.refusal.Refusal.TheVariants as refusal
 use Rattle.silt_store_set.proofs.Calls.{seen, stands_seen}
 
 -- ---- why an opening is refused
@@ -15,23 +13,15 @@ never : {A : Type 0} (found : Option A) (x : A) → found ≡ None → found ≡
 never found x none some = absurd (let no : None ≡ Some x = sym none ∙ some in cc)
 
 -- opening a good image is refused only by its device or if out of memory
-pub opening_refused : {D F : Type 0} (facts : Ghosts D F) (old : Content) (disk : D) (r : Refusal F)
-    → IsTrue old.honest → IsGood old.shown → OpeningCause facts old disk r → IsOpeningRefusal r
-opening_refused facts old disk refusal.NotFormatted h good cause = absurd (never _ _ good (cause.0 h))
-opening_refused facts old disk (refusal.Damaged place) h good cause = absurd (never _ _ good (cause.0 h))
-opening_refused facts old disk refusal.Crowded h good cause = absurd (never _ _ good (cause.0 h))
-opening_refused facts old disk (refusal.Device fault) h good cause = tt
-opening_refused facts old disk refusal.NoMemory h good cause = tt
-opening_refused facts old disk r h good cause = absurd cause
+pub opening_refused : {D F : Type 0} (facts : Ghosts D F) (old : Content) (disk : D) (r : Refusal F) → IsTrue old.honest → IsGood old.shown → OpeningCause facts old disk r → IsOpeningRefusal r
+opening_refused facts old disk r h good cause = search (arith, never)
 
 -- ---- what is opened
 
 -- if all rows are settled none waits
 pub none_wait : (content : Content) (log : LogState) → log.settled ≡ log.used → waiting_rows content log ≡ []
 unfolding rows_from
-none_wait content log settled =
-    let none : log.used - log.settled ≡ 0 = omega (arith, settled) in
-    rw none refl
+none_wait content log settled = search arith
 
 -- a store that was opened
 pub opened : {D F : Type 0} (facts : Ghosts D F) (old : Content) (disk : D) (stores : EngineState) → TakesUp old (facts.content disk) stores → Opens facts old (seen facts disk stores 0)

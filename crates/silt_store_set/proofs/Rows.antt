@@ -1,22 +1,25 @@
 -- What a put or a delete does, from what taking its row does.
-use Rattle.silt_store_set.proofs.Common.{◌≡◌, ◌≢◌, ◌<◌, ◌≤◌, ℕ, ◌*◌, ◌==◌, Bool, true, if◌then◌else◌, Option, Some, None, ◌+◌, ◌%◌, ◌^◌, inl, inr, false, IsTrue, List, [], ◌∷◌, length, refl, ap}
-use Rattle.silt_store_set.proofs.Common.{sym, ◌∙◌, subst, arith, length-map, GaveAny, Makes, MakesAtMost, Ghosts, Key, Command, command_of, StoredRow, all_rows, Body, Advances, Breaks}
-use Rattle.silt_store_set.proofs.Common.{IsLastGeneration, Remaps, SameDisk, Stands, full_image, waiting_commands, EngineState, region_of, meaning, Put, Delete, Refusal, Spent, Accepted, Refused}
-use Rattle.silt_store_set.proofs.Common.{is_failed, basis_of, progress_due, Idle, Waiting, Moved, Finished, Shape, CoreState, Cause, convert_due, convert_work, written_of, Does, MakesRow}
-use Rattle.silt_store_set.proofs.Common.{most_syncs, most_writes, some_wait}
+use Rattle.silt_store_set.proofs.Common.{◌≡◌, ◌≢◌, ◌<◌, ◌≤◌, ℕ, ◌*◌, Bool, true, if◌then◌else◌, Option, ◌+◌, ◌^◌, inl, inr, false, IsTrue, List, [], ◌∷◌, length, refl, ap, sym, ◌∙◌, subst}
+use Rattle.silt_store_set.proofs.Common.{arith, length-map, Makes, MakesAtMost, Ghosts, Key, Command, command_of, StoredRow, all_rows, Body, SameDisk, Stands, full_image, waiting_commands}
+use Rattle.silt_store_set.proofs.Common.{EngineState, region_of, meaning, Put, Delete, Refusal, Spent, Accepted, Refused, is_failed, basis_of, progress_due, Idle, Shape, CoreState, Cause}
+use Rattle.silt_store_set.proofs.Common.{convert_due, convert_work, written_of, Does, MakesRow, most_syncs, most_writes, some_wait}
 use Rattle.std.proofs.lemmas.Bool.{ne_eqb}
 use Rattle.silt_frame.specs.declared.key.Kind.{Kind}
 use Rattle.silt_frame.specs.declared.key.Kind.TheVariants as kind
 use Rattle.silt_log.specs.Rows.{log_rows}
 use Rattle.silt_frame.specs.Rows.{stored_row}
-use Rattle.silt_engine.specs.Calls.{HasNoFreeLog as AllInUse, CannotTake}
+use Rattle.silt_engine.specs.Calls.{HasNoFreeLog as AllInUse, CannotTake, WorksBy}
 use Rattle.silt_engine.specs.NextLog.{IsLowestFree, next_body}
-use Rattle.silt_engine.specs.RowWrite.{NeedsNext, WritesKey}
+use Rattle.silt_engine.specs.RowWrite.{CountsRow, NeedsNext, WriteCause, WritesKey}
+use Rattle.silt_engine.specs.declared.row_write.WriteError.{WriteError}
+use Rattle.silt_engine.specs.declared.row_write.WriteError.TheVariants.{Read, Write}
+use Rattle.silt_engine.specs.declared.row_write.WriteError.TheVariants as error
+use Rattle.std.proofs.Common.{Err, Ok, Result}
 use Rattle.silt_engine.specs.Costs as engine
 use Rattle.silt_event.specs.declared.refusal.Refusal.TheVariants.{Device, NoMemory, NoRoom}
 use Rattle.silt_event.specs.declared.progress.Progress.{Progress as ProgressOf}
 use Rattle.silt_disk.specs.Layout.{InLimits}
-use Rattle.silt_store_set.specs.CoreState.{AreAllInUse, FailsBy, FailsRead, Freezes, HasFreeLog, IsStuck, MayWrite, Takes, row_event}
+use Rattle.silt_store_set.specs.CoreState.{AreAllInUse, Freezes, HasFreeLog, IsStuck, MayWrite, NoRowCause, Takes, row_event}
 use Rattle.silt_store_set.proofs.Waits.{waits_same}
 use Rattle.silt_store_set.proofs.Calls.{seen, seen_failed, advanced, broke, refused}
 
@@ -32,9 +35,7 @@ may_count kind.Delete core may = omega (arith, may.count)
 
 -- the manifest record is the next one, with the lowest free region
 freezes : (logs : ℕ) (old new : Body) (region : ℕ) → IsLowestFree logs old region → new ≡ next_body old region → Freezes logs old new
-freezes logs old new region lowest is =
-    let active : region ≡ new.active = sym (ap (λ (b : Body). b.active) is) in
-    record { lowest = subst (IsLowestFree logs old) active lowest; is = is ∙ ap (next_body old) active }
+freezes logs old new region lowest is = search arith
 
 -- a step of conversion is not idle if neither case of it is
 neither_idle : (b : Bool) (first second : ProgressOf) → first ≢ Idle → second ≢ Idle → (if b then first else second) ≢ Idle
@@ -43,8 +44,7 @@ neither_idle false first second works waits = waits
 
 -- with a frozen log a step of conversion is due, or waits for a hash region
 not_idle : (frozen hashes regions slots : ℕ) (written : Option ℕ) → 1 ≤ frozen → progress_due frozen hashes regions slots written ≢ Idle
-not_idle frozen hashes regions slots (Some written) some = neither_idle (written == slots) Finished Moved (λ is. absurd (cc)) (λ is. absurd (cc))
-not_idle frozen hashes regions slots None some = rw (ne_eqb frozen 0 (λ is. omega (arith, some, is))) (neither_idle (hashes == regions) Waiting Moved (λ is. absurd (cc)) (λ is. absurd (cc)))
+not_idle frozen hashes regions slots written some = search (arith, neither_idle, ne_eqb)
 
 -- there are at least two logs
 pub least_logs : (shape : Shape) → InLimits shape → 2 ≤ shape.logs
@@ -89,8 +89,7 @@ module _ {D F : Type 0} (facts : Ghosts D F) (disk : D) (stores : EngineState) (
     ),
     λ h. record {
       waiting = (turns.waits h).waiting;
-      base =
-          cc ((meaning (facts.content new) after stood).shown (same.honest ∙ h), (turns.waits h).base, (meaning (facts.content disk) stores stands).shown h);
+      base = cc ((meaning (facts.content new) after stood).shown (same.honest ∙ h), (turns.waits h).base, (meaning (facts.content disk) stores stands).shown h);
     },
   )
 
@@ -105,92 +104,67 @@ module _ {D F : Type 0} (facts : Ghosts D F) (disk : D) (stores : EngineState) (
 
   row_most : (new : D) (k : Kind) (key : Key) (value : List ℕ) → MakesAtMost facts.writes facts.syncs (engine.freeze_writes stores) (engine.freeze_syncs stores) disk new
       → MakesAtMost facts.writes facts.syncs (most_writes before (row_event k key value)) (most_syncs before (row_event k key value)) disk new
-  row_most new kind.Put key value most = subst (λ (n : ℕ). MakesAtMost facts.writes facts.syncs (n + 6) (2 * n + 4) disk new) waits_as_seen most
-  row_most new kind.Delete key value most = subst (λ (n : ℕ). MakesAtMost facts.writes facts.syncs (n + 6) (2 * n + 4) disk new) waits_as_seen most
+  row_most new k key value most = search (arith, waits_as_seen)
 
   -- ---- the row was taken
 
-  pub row_taken : (new : D) (after : EngineState) (k : Kind) (key : Key) (value : List ℕ) → MayWrite k before → SameDisk (facts.content disk) (facts.content new)
-      → Advances (command_of (stored_row k key value) ∷ []) (facts.content disk) (facts.content new) stores after
-      → WritesKey (facts.content disk) (facts.content new) stores after key.0 (command_of (stored_row k key value))
-      → after.converting ≡ stores.converting → after.merging ≡ stores.merging → facts.failures new ≡ facts.failures disk
-      → engine.RowMakes facts disk new stores after → Does facts before (seen facts new after (count + 1)) (row_event k key value) (Accepted (count + 1))
-  row_taken new after kind.Put key value may same goes taken converting merging counted made =
-      advanced facts disk new stores after same stands (command_of (stored_row kind.Put key value) ∷ []) count (count + 1) (Put key value) (Accepted (count + 1)) goes (refl, refl) refl refl refl
-      (may, (takes new after (count + 1) key.0 _ same goes.stands taken, counted)) (λ m to e. e) (λ none. absurd (cc)) (λ _. converting)
-      (λ _. merging) (λ _. tt) counted (row_made new after (count + 1) made)
-  row_taken new after kind.Delete key value may same goes taken converting merging counted made =
-      advanced facts disk new stores after same stands (command_of (stored_row kind.Delete key value) ∷ []) count (count + 1) (Delete key) (Accepted (count + 1)) goes (refl, refl) refl refl refl
-      (may, (takes new after (count + 1) key.0 _ same goes.stands taken, counted)) (λ m to e. e) (λ none. absurd (cc)) (λ _. converting)
-      (λ _. merging) (λ _. tt) counted (row_made new after (count + 1) made)
+  -- what the call of the stores in memory does
+  abbrev Works : {T : Type 0} → D → EngineState → Kind → Key → List ℕ → Result T (WriteError F) → Type 0
+  Works new after k key value result = WorksBy facts (λ _. engine.RowMakes facts disk new stores after) (command_of (stored_row k key value) ∷ [])
+      (engine.freeze_writes stores) (engine.freeze_syncs stores) disk new stores after result
 
-  -- ---- a call failed
+  pub row_taken : {T : Type 0} (v : T) (new : D) (after : EngineState) (k : Kind) (key : Key) (value : List ℕ) → MayWrite k before → Works new after k key value (Ok v)
+      → WritesKey (facts.content disk) (facts.content new) stores after key.0 (command_of (stored_row k key value)) → CountsRow stores after k
+      → Does facts before (seen facts new after (count + 1)) (row_event k key value) (Accepted (count + 1))
+  row_taken v new after kind.Put key value may works taken row =
+      advanced facts _ _ _ _ disk new stores after stands v works count (count + 1) (Put key value) (Accepted (count + 1)) (refl, refl) refl refl refl
+      (may, (takes new after (count + 1) key.0 _ works.same works.advances.stands taken, works.failures)) (λ m to e. e) (λ none. absurd (cc)) (λ _. row.converting)
+      (λ _. row.merging) (λ _. tt) (row_made new after (count + 1) works.made)
+  row_taken v new after kind.Delete key value may works taken row =
+      advanced facts _ _ _ _ disk new stores after stands v works count (count + 1) (Delete key) (Accepted (count + 1)) (refl, refl) refl refl refl
+      (may, (takes new after (count + 1) key.0 _ works.same works.advances.stands taken, works.failures)) (λ m to e. e) (λ none. absurd (cc)) (λ _. row.converting)
+      (λ _. row.merging) (λ _. tt) (row_made new after (count + 1) works.made)
 
-  broke_cause : (next : CoreState D) (k : Kind) (key : Key) (value : List ℕ) (fault : F) → MayWrite k before → FailsBy facts before next fault
-      → Cause facts before next (row_event k key value) (Refused (Device fault))
-  broke_cause next kind.Put key value fault may fails = (may, inr fails)
-  broke_cause next kind.Delete key value fault may fails = (may, inr fails)
+  -- ---- the row was not taken
 
-  read_cause : (next : CoreState D) (k : Kind) (key : Key) (value : List ℕ) (fault : F) → MayWrite k before → FailsRead facts before next fault
-      → Cause facts before next (row_event k key value) (Refused (Device fault))
-  read_cause next kind.Put key value fault may fails = (may, inl fails)
-  read_cause next kind.Delete key value fault may fails = (may, inl fails)
+  -- the reply to an error
+  abbrev refusal_of : WriteError F → Refusal F
+  refusal_of (Read fault) = Device fault
+  refusal_of (Write fault) = Device fault
+  refusal_of error.NoRoom = NoRoom
+  refusal_of error.Spent = Spent
+  refusal_of error.NoMemory = NoMemory
 
-  pub row_broke : (new : D) (after : EngineState) (k : Kind) (key : Key) (value : List ℕ) (fault : F) → MayWrite k before → SameDisk (facts.content disk) (facts.content new)
-      → Breaks (facts.content disk) (facts.content new) stores → Remaps [] (facts.content disk) (facts.content new) stores after → after.manifest.shape ≡ stores.manifest.shape
-      → GaveAny facts.gave new fault → facts.failures new ≡ (facts.failures disk + 1) % 2 ^ 64
-      → MakesAtMost facts.writes facts.syncs (engine.freeze_writes stores) (engine.freeze_syncs stores) disk new
-      → Does facts before (seen_failed facts (basis_of (facts.content disk) stores) new after count) (row_event k key value) (Refused (Device fault))
-  row_broke new after k key value fault may same breaks remaps shape given counted most =
-      broke facts disk new stores after same stands count (row_event k key value) fault breaks shape remaps
-      (broke_cause (seen_failed facts (basis_of (facts.content disk) stores) new after count) k key value fault may
-      (record { given = given; counted = counted; failed = refl })) counted (row_most new k key value most)
-
-  -- ---- the row was refused
+  no_row : (next : CoreState D) (k : Kind) (key : Key) (value : List ℕ) (e : WriteError F) → MayWrite k before → NoRowCause facts before next key.0 (refusal_of e)
+      → Cause facts before next (row_event k key value) (Refused (refusal_of e))
+  no_row next kind.Put key value error.Spent may why = (refl, inr (may, why))
+  no_row next kind.Put key value e may why = (may, why)
+  no_row next kind.Delete key value error.Spent may why = (refl, inr (may, why))
+  no_row next kind.Delete key value e may why = (may, why)
 
   -- nothing was changed
-  kept : (new : D) (after : EngineState) (k : Kind) (key : Key) (value : List ℕ) (refusal : Refusal F) → after ≡ stores → new ≡ disk → is_failed (Refused refusal) ≡ false
-      → Cause facts before before (row_event k key value) (Refused refusal)
-      → Does facts before (seen facts new after count) (row_event k key value) (Refused refusal)
-  kept new after k key value refusal same_stores same_disk other cause =
-      rw (same_stores, same_disk) (refused facts disk stores count (row_event k key value) refusal stands other cause)
-
-  pub row_unread : (new : D) (after : EngineState) (k : Kind) (key : Key) (value : List ℕ) (fault : F) → MayWrite k before → after ≡ stores → new ≡ disk → GaveAny facts.gave disk fault
-      → Does facts before (seen facts new after count) (row_event k key value) (Refused (Device fault))
-  row_unread new after k key value fault may same_stores same_disk given =
-      kept new after k key value (Device fault) same_stores same_disk refl (read_cause before k key value fault may (record { given = given; working = refl; same = refl }))
+  kept : (new : D) (after : EngineState) (k : Kind) (key : Key) (value : List ℕ) (e : WriteError F) → MayWrite k before → (after ≡ stores) × (new ≡ disk)
+      → NoRowCause facts before before key.0 (refusal_of e) → is_failed (Refused (refusal_of e)) ≡ false → Does facts before (seen facts new after count) (row_event k key
+      value) (Refused (refusal_of e))
+  kept new after k key value e may same why other = rw (same.0, same.1) (refused facts disk stores count (row_event k key value) (refusal_of e) stands other (no_row before k key value e may why))
 
   -- if all logs are in use, there is a frozen one
   frozen_due : 2 ≤ stores.manifest.shape.logs → AllInUse stores → convert_due before ≢ Idle
   frozen_due least all = not_idle (length stores.manifest.current.frozen) (length stores.manifest.current.hashed) stores.manifest.shape.hashes (4 * stores.manifest.shape.buckets)
       (written_of (convert_work stores.converting)) (omega (arith, all, least, frozen_count))
 
-  no_room_cause : (k : Kind) (key : Key) (value : List ℕ) → 2 ≤ stores.manifest.shape.logs → MayWrite k before
-      → NeedsNext (facts.content disk) stores key.0 → AllInUse stores → Cause facts before before (row_event k key value) (Refused NoRoom)
-  no_room_cause kind.Put key value least may needs all = (may, (stopped before key.0 needs, all_in_use all, frozen_due least all))
-  no_room_cause kind.Delete key value least may needs all = (may, (stopped before key.0 needs, all_in_use all, frozen_due least all))
+  -- the store that an error leaves
+  abbrev left_by : D → EngineState → WriteError F → CoreState D
+  left_by new after (Write fault) = seen_failed facts (basis_of (facts.content disk) stores) new after count
+  left_by new after e = seen facts new after count
 
-  pub row_no_room : (new : D) (after : EngineState) (k : Kind) (key : Key) (value : List ℕ) → 2 ≤ stores.manifest.shape.logs
-      → MayWrite k before → after ≡ stores → new ≡ disk → NeedsNext (facts.content disk) stores key.0 → AllInUse stores
-      → Does facts before (seen facts new after count) (row_event k key value) (Refused NoRoom)
-  row_no_room new after k key value least may same_stores same_disk needs all = kept new after k key value NoRoom same_stores same_disk refl (no_room_cause k key value least may needs all)
-
-  spent_cause : (k : Kind) (key : Key) (value : List ℕ) → MayWrite k before → NeedsNext (facts.content disk) stores key.0
-      → (AllInUse stores → ⊥) → IsLastGeneration stores → Cause facts before before (row_event k key value) (Refused Spent)
-  spent_cause kind.Put key value may needs free last = (refl, inr (may, (stopped before key.0 needs, has_free free, last)))
-  spent_cause kind.Delete key value may needs free last = (refl, inr (may, (stopped before key.0 needs, has_free free, last)))
-
-  pub row_spent : (new : D) (after : EngineState) (k : Kind) (key : Key) (value : List ℕ) → MayWrite k before → after ≡ stores
-      → new ≡ disk → NeedsNext (facts.content disk) stores key.0 → (AllInUse stores → ⊥) → IsLastGeneration stores
-      → Does facts before (seen facts new after count) (row_event k key value) (Refused Spent)
-  row_spent new after k key value may same_stores same_disk needs free last = kept new after k key value Spent same_stores same_disk refl (spent_cause k key value may needs free last)
-
-  memory_cause : (k : Kind) (key : Key) (value : List ℕ) → MayWrite k before → NeedsNext (facts.content disk) stores key.0
-      → (AllInUse stores → ⊥) → (IsLastGeneration stores → ⊥) → Cause facts before before (row_event k key value) (Refused NoMemory)
-  memory_cause kind.Put key value may needs free more = (may, (stopped before key.0 needs, has_free free, more))
-  memory_cause kind.Delete key value may needs free more = (may, (stopped before key.0 needs, has_free free, more))
-
-  pub row_no_memory : (new : D) (after : EngineState) (k : Kind) (key : Key) (value : List ℕ) → MayWrite k before → after ≡ stores
-      → new ≡ disk → NeedsNext (facts.content disk) stores key.0 → (AllInUse stores → ⊥) → (IsLastGeneration stores → ⊥)
-      → Does facts before (seen facts new after count) (row_event k key value) (Refused NoMemory)
-  row_no_memory new after k key value may same_stores same_disk needs free more = kept new after k key value NoMemory same_stores same_disk refl (memory_cause k key value may needs free more)
+  pub row_refused : {T : Type 0} (new : D) (after : EngineState) (k : Kind) (key : Key) (value : List ℕ) (e : WriteError F) → 2 ≤ stores.manifest.shape.logs → MayWrite k before
+      → Works {T = T} new after k key value (Err e) → WriteCause facts disk new stores after key.0 e → Does facts before (left_by new after e) (row_event k key value) (Refused (refusal_of e))
+  row_refused new after k key value (Write fault) least may works off =
+      broke facts _ _ _ _ disk new stores after stands (Write fault) count (row_event k key value) fault works off
+      (λ fails. no_row (left_by new after (Write fault)) k key value (Write fault) may (inr fails)) (row_most new k key value works.made)
+  row_refused new after k key value (Read fault) least may works err = kept new after k key value (Read fault) may err.0 (inl (record { given = err.1; working = refl; same = refl })) refl
+  row_refused new after k key value error.NoRoom least may works err =
+      kept new after k key value error.NoRoom may err.0 (stopped before key.0 err.1, all_in_use err.2, frozen_due least err.2) refl
+  row_refused new after k key value error.Spent least may works err = kept new after k key value error.Spent may err.0 (stopped before key.0 err.1, has_free err.2, err.3) refl
+  row_refused new after k key value error.NoMemory least may works err = kept new after k key value error.NoMemory may err.0 (stopped before key.0 err.1, has_free err.2, err.3) refl

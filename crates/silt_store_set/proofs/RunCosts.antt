@@ -1,14 +1,13 @@
 -- How many writes and syncs runs make, from what each call makes.
-use Rattle.silt_store_set.proofs.Common.{◌≡◌, ◌≢◌, ◌≤◌, ℕ, zero, suc, ◌+◌, ◌*◌, ◌==◌, Bool, true, false, if◌then◌else◌, IsTrue, List, [], ◌∷◌, ◌++◌, length, Option, Some, None, inl, inr, refl, ap}
-use Rattle.silt_store_set.proofs.Common.{sym, ◌∙◌, subst, arith, Ghosts, none_made, Command, Event, Put, Delete, Swap, Flush, Get, Convert, Merge, Moved, Finished, Reply, Accepted, Acknowledged}
-use Rattle.silt_store_set.proofs.Common.{Found, Absent, Differs, Progress, Refused, accepted_command, accepted_commands, ConvertGoesOn, CoreState, Does, MakesRow, Runs, entries_written, is_convert}
-use Rattle.silt_store_set.proofs.Common.{is_merge, some_wait, written_of, eqb-true, Body, progress_due}
+use Rattle.silt_store_set.proofs.Common.{sym, ◌≡◌, ◌≤◌, ℕ, zero, suc, ◌+◌, ◌*◌, Bool, true, false, IsTrue, List, [], ◌∷◌, ◌++◌, length, Option, Some, None, refl, ap, ◌∙◌, subst, arith}
+use Rattle.silt_store_set.proofs.Common.{Ghosts, none_made, Command, Event, Put, Delete, Swap, Flush, Get, Convert, Merge, Moved, Finished, Reply, Accepted, Acknowledged, Found, Absent}
+use Rattle.silt_store_set.proofs.Common.{Differs, Progress, Refused, accepted_command, accepted_commands, ConvertGoesOn, CoreState, Does, MakesRow, Runs, entries_written, is_convert}
+use Rattle.silt_store_set.proofs.Common.{is_merge, some_wait, eqb-true, Body, progress_due}
 use Rattle.std.specs.Prelude.{◌&&◌}
 use Rattle.std.specs.List.{list_all}
 use Rattle.silt_disk.proofs.Costs.{made_both}
 use Rattle.silt_store_set.specs.CoreState.{ConvertWork, HasMade, WritesRow}
 use Rattle.silt_store_set.specs.Costs.{RowsMade, RunMade, is_foreground, settles_by, settling, to_the_end, waits_after}
-use Rattle.silt_store_set.proofs.Calls.{none_refused}
 use Rattle.std.proofs.lemmas.List.{length-append}
 
 -- behind other commands a command waits
@@ -49,12 +48,7 @@ one_slot hashes body before None on = absurd on
 
 -- if the step that is due finishes, all slots are written
 all_slots : (frozen hashes regions slots written : ℕ) → Finished ≡ progress_due frozen hashes regions slots (Some written) → written ≡ slots
-all_slots frozen hashes regions slots written due =
-    let go : (b : Bool) → (written == slots) ≡ b → Finished ≡ (if b then Finished else Moved) → written ≡ slots = elim [
-      | true ↦ λ is _. eqb-true written slots is
-      | false ↦ λ is no. absurd (let other : Finished ≡ Moved = no in cc)
-    ] in
-    go (written == slots) refl due
+all_slots frozen hashes regions slots written due = search (arith, eqb-true)
 
 module _ {D F : Type 0} (facts : Ghosts D F) where
   -- the same numbers in other words
@@ -81,27 +75,7 @@ module _ {D F : Type 0} (facts : Ghosts D F) where
     waits : some_wait new.waiting ≡ 1
 
   row_made : (old new : CoreState D) (key : List ℕ) (command : Command) → IsTrue (facts.content old.disk).honest → WritesRow facts old new key command → MakesRow facts old new → RowMade old new
-  row_made old new key command h (inl (stays, behind), quiet) made =
-      let same : new.body.generation ≡ old.body.generation = ap (λ b. b.generation) stays.0 in
-      record {
-        freezes = 0;
-        waited = 0;
-        turns = omega (arith, same);
-        fewer = omega arith;
-        made = as_many old new (made.0 stays.0) (omega arith) (omega arith);
-        waits = ap some_wait (behind h).waiting ∙ waits_behind old.waiting command;
-      }
-  row_made old new key command h (inr (turns, alone), quiet) made =
-      let next : new.body.generation ≡ old.body.generation + 1 = ap (λ b. b.generation) turns.0.is in
-      let other : new.body ≢ old.body = λ same. absurd (omega (arith, next, ap (λ (b : Body). b.generation) same)) in
-      record {
-        freezes = 1;
-        waited = some_wait old.waiting;
-        turns = next;
-        fewer = waits_most old.waiting;
-        made = as_many old new (made.1 other) (omega arith) (omega arith);
-        waits = ap some_wait (alone h).waiting;
-      }
+  row_made old new key command h h5 made = search (arith, as_many, waits_behind, waits_most)
 
   -- the reply to the command of this number
   abbrev acceptance : ℕ → Reply F
@@ -109,27 +83,13 @@ module _ {D F : Type 0} (facts : Ghosts D F) where
 
   -- a command that wrote a row
   command_made : (old new : CoreState D) (event : Event) (n : ℕ) → length (accepted_command event (acceptance n)) ≡ 1 → RowMade old new → Made old new event (acceptance n)
-  command_made old new event n one row = record {
-    freezes = row.freezes;
-    waited = row.waited;
-    turns = row.turns;
-    fewer = row.fewer;
-    made = as_many old new row.made (omega (arith, one)) (omega arith);
-    waits = row.waits;
-  }
+  command_made old new event n one row = search (arith, as_many)
 
   -- a call that freezes no log
   still_made : (old new : CoreState D) (event : Event) (reply : Reply F) → new.body.generation ≡ old.body.generation
       → HasMade facts old new (2 * length (accepted_command event reply) + settles_by (some_wait old.waiting) reply) (2 * settles_by (some_wait old.waiting) reply)
       → some_wait new.waiting ≡ waits_after (some_wait old.waiting) reply → Made old new event reply
-  still_made old new event reply same made waits = record {
-    freezes = 0;
-    waited = 0;
-    turns = omega (arith, same);
-    fewer = omega arith;
-    made = as_many old new made (omega arith) (omega arith);
-    waits = waits;
-  }
+  still_made old new event reply same made waits = search (arith, as_many)
 
   -- a call that changes nothing
   nothing_made : (old new : CoreState D) → new ≡ old → (new.body.generation ≡ old.body.generation) × HasMade facts old new 0 0 × (some_wait new.waiting ≡ some_wait old.waiting)
@@ -142,21 +102,11 @@ module _ {D F : Type 0} (facts : Ghosts D F) where
   call_made old new (Swap key expected (Some value)) (Accepted n) h front was is does =
       command_made old new (Swap key expected (Some value)) n refl (row_made old new key.0 _ h does.cause.1.1 does.made)
   call_made old new (Swap key expected None) (Accepted n) h front was is does = command_made old new (Swap key expected None) n refl (row_made old new key.0 _ h does.cause.1.1 does.made)
-  call_made old new Flush (Acknowledged n) h front was is does =
-      still_made old new Flush (Acknowledged n) (ap (λ b. b.generation) (does.keeps_body is refl refl)) (as_many old new does.made (omega arith) refl) (ap some_wait (does.settles h))
-  call_made old new (Get key) (Found value) h front was is does =
-      let none = nothing_made old new does.cause.1 in
-      still_made old new (Get key) (Found value) none.0 none.1 none.2
-  call_made old new (Get key) Absent h front was is does =
-      let none = nothing_made old new does.cause.1 in
-      still_made old new (Get key) Absent none.0 none.1 none.2
-  call_made old new (Swap key expected value) Differs h front was is does =
-      let none = nothing_made old new does.cause.1 in
-      still_made old new (Swap key expected value) Differs none.0 none.1 none.2
-  call_made old new event (Refused refusal) h front was is does =
-      let none = nothing_made old new (does.stays refl (is ∙ sym was)) in
-      still_made old new event (Refused refusal) none.0
-      (subst (λ (commands : List Command). HasMade facts old new (2 * length commands + 0) 0) (sym (none_refused {F = F} event refusal)) none.1) none.2
+  call_made old new Flush (Acknowledged n) h front was is does = search (arith, still_made, as_many, does.keeps_body, does.settles)
+  call_made old new (Get key) (Found value) h front was is does = search (arith, nothing_made, still_made)
+  call_made old new (Get key) Absent h front was is does = search (arith, nothing_made, still_made)
+  call_made old new (Swap key expected value) Differs h front was is does = search (arith, nothing_made, still_made)
+  call_made old new event (Refused refusal) h front was is does = search (arith, nothing_made, still_made, does.stays)
   call_made old new Convert reply h front was is does = absurd (let no : IsTrue false = front in cc)
   call_made old new Merge reply h front was is does = absurd (let no : IsTrue false = front in cc)
   call_made old new (Swap key expected value) reply h front was is does = absurd does.cause.1
@@ -167,19 +117,12 @@ module _ {D F : Type 0} (facts : Ghosts D F) where
   -- a failed store stays one
   stays_failed : (old new : CoreState D) (events : List Event) (replies : List (Reply F)) → Runs facts old events replies new → old.failed ≡ true → new.failed ≡ true
   stays_failed old new [] [] runs failed = ap (λ (c : CoreState D). c.failed) runs ∙ failed
-  stays_failed old new (event ∷ events) (reply ∷ replies) runs failed =
-      let same : runs.0 ≡ old = (runs.1.failed failed).0 in
-      stays_failed runs.0 new events replies runs.2 (ap (λ (c : CoreState D). c.failed) same ∙ failed)
+  stays_failed old new (event ∷ events) (reply ∷ replies) runs failed = search (arith, stays_failed runs.0 new events replies runs.2, runs.1.failed)
   stays_failed old new events replies runs failed = absurd runs
 
   -- so a store that is not failed was not
   not_failed : (old new : CoreState D) (events : List Event) (replies : List (Reply F)) → Runs facts old events replies new → new.failed ≡ false → old.failed ≡ false
-  not_failed old new events replies runs is =
-      let go : (b : Bool) → old.failed ≡ b → old.failed ≡ false = elim [
-        | false ↦ λ was. was
-        | true ↦ λ was. absurd (let no : true ≡ false = sym (stays_failed old new events replies runs was) ∙ is in cc)
-      ] in
-      go old.failed refl
+  not_failed old new events replies runs is = search (arith, stays_failed)
 
   rows_made : (old new : CoreState D) (events : List Event) (replies : List (Reply F)) → IsTrue (facts.content old.disk).honest → IsTrue (list_all is_foreground events) → new.failed ≡ false
       → Runs facts old events replies new → RowsMade facts old events replies new
@@ -200,9 +143,7 @@ module _ {D F : Type 0} (facts : Ghosts D F) where
       let rest = rows_made next new events replies there fronts.1 is runs.2 in
       let after : HasMade facts next new (2 * length (accepted_commands events replies) + settling (waits_after (some_wait old.waiting) reply) replies + 4 * rest.freezes + rest.waited)
       (2 * settling (waits_after (some_wait old.waiting) reply) replies + 4 * rest.freezes + 2 * rest.waited)
-      = subst (λ (n : ℕ). HasMade facts next new (2 * length (accepted_commands events replies) + settling n replies + 4 * rest.freezes + rest.waited)
-      (2 * settling n replies + 4 * rest.freezes + 2 * rest.waited))
-      one.waits rest.made in
+      = rw one.waits at rest.made in
       let long : length (accepted_command event reply ++ accepted_commands events replies) ≡ length (accepted_command event reply) + length (accepted_commands events replies)
       = length-append (accepted_command event reply) (accepted_commands events replies) in
       record {
@@ -223,40 +164,19 @@ module _ {D F : Type 0} (facts : Ghosts D F) where
 
   -- the step that finishes a conversion comes after one for each slot
   finished_at : (old new : CoreState D) → Does facts old new Convert (Progress Finished) → slots_written old.converting ≡ 4 * old.shape.buckets
-  finished_at old new does =
-      let is = does.cause.2 in
-      let due : Finished ≡ progress_due (length old.body.frozen) (length old.body.hashed) old.shape.hashes (4 * old.shape.buckets) (Some is.work.written)
-      = does.cause.1 ∙ ap (λ o. progress_due (length old.body.frozen) (length old.body.hashed) old.shape.hashes (4 * old.shape.buckets) (written_of o)) is.was in
-      ap slots_written is.was ∙ all_slots (length old.body.frozen) (length old.body.hashed) old.shape.hashes (4 * old.shape.buckets) is.work.written due
+  finished_at old new does = search (arith, all_slots)
 
   conversion_made : (moves : ℕ) (old new : CoreState D) (events : List Event) → IsTrue (list_all is_convert events) → Runs facts old events (to_the_end moves) new
       → (slots_written old.converting + moves ≡ 4 * old.shape.buckets) × HasMade facts old new (moves + 3) 4
-  conversion_made zero old new (event ∷ []) all runs =
-      let is = convert_is event (both_true (is_convert event) (list_all is_convert []) all).0 in
-      let does : Does facts old runs.0 Convert (Progress Finished) = subst (λ (e : Event). Does facts old runs.0 e (Progress Finished)) is runs.1 in
-      (omega (arith, finished_at old runs.0 does), subst (λ (c : CoreState D). HasMade facts old c 3 4) (sym runs.2) does.made)
+  conversion_made zero old new (event ∷ []) all runs = search (arith, convert_is, both_true, finished_at)
   conversion_made zero old new (event ∷ other ∷ events) all runs = absurd runs.2
-  conversion_made (suc moves) old new (event ∷ events) all runs =
-      let trues = both_true (is_convert event) (list_all is_convert events) all in
-      let is = convert_is event trues.0 in
-      let next = runs.0 in
-      let does : Does facts old next Convert (Progress Moved) = subst (λ (e : Event). Does facts old next e (Progress Moved)) is runs.1 in
-      let rest = conversion_made moves next new events trues.1 runs.2 in
-      let one : slots_written next.converting ≡ slots_written old.converting + 1 = one_slot old.shape.hashes old.body old.converting next.converting does.cause.2.1 in
-      let same : 4 * next.shape.buckets ≡ 4 * old.shape.buckets = ap (λ s. 4 * s.buckets) does.shape in
-      (omega (arith, one, rest.0, same), made_both next.disk does.made rest.1 (omega arith) (omega arith))
+  conversion_made (suc moves) old new (event ∷ events) all runs = search (arith, conversion_made moves, both_true, convert_is, one_slot, made_both)
   conversion_made zero old new [] all runs = absurd runs
   conversion_made (suc moves) old new [] all runs = absurd runs
 
   merge_made : (moves : ℕ) (old new : CoreState D) (events : List Event) → IsTrue (list_all is_merge events) → Runs facts old events (to_the_end moves) new
       → (count : ℕ) × (new.body.sorted_count ≡ entries_written old.merging + count) × HasMade facts old new (count + 3) 4
-  merge_made zero old new (event ∷ []) all runs =
-      let is = merge_is event (both_true (is_merge event) (list_all is_merge []) all).0 in
-      let does : Does facts old runs.0 Merge (Progress Finished) = subst (λ (e : Event). Does facts old runs.0 e (Progress Finished)) is runs.1 in
-      let merged = does.cause.2 in
-      let written : runs.0.body.sorted_count ≡ entries_written old.merging = ap (λ b. b.sorted_count) merged.body ∙ sym (ap entries_written merged.was) in
-      let count : new.body.sorted_count ≡ entries_written old.merging + 0 = omega (arith, written, ap (λ (c : CoreState D). c.body.sorted_count) runs.2) in
-      (0, count, subst (λ (c : CoreState D). HasMade facts old c 3 4) (sym runs.2) does.made)
+  merge_made zero old new (event ∷ []) all runs = search (arith, merge_is, both_true)
   merge_made zero old new (event ∷ other ∷ events) all runs = absurd runs.2
   merge_made (suc moves) old new (event ∷ events) all runs =
       let trues = both_true (is_merge event) (list_all is_merge events) all in
@@ -271,14 +191,4 @@ module _ {D F : Type 0} (facts : Ghosts D F) where
 
   -- what a run makes
   pub run_made : (old new : CoreState D) (events : List Event) (replies : List (Reply F)) → Runs facts old events replies new → RunMade facts old events replies new
-  run_made old new events replies runs = record {
-    rows = λ h front is same. unfrozen old new events replies same (rows_made old new events replies h front is runs);
-    freezes = λ h front is. rows_made old new events replies h front is runs;
-    conversion = λ moves none all ends.
-        let end = conversion_made moves old new events all (subst (λ rs. Runs facts old events rs new) ends runs) in
-        (omega (arith, end.0, ap slots_written none), end.1);
-    merge = λ moves none all ends.
-        let end = merge_made moves old new events all (subst (λ rs. Runs facts old events rs new) ends runs) in
-        let count : end.0 ≡ new.body.sorted_count = omega (arith, end.1, ap entries_written none) in
-        subst (λ (n : ℕ). HasMade facts old new (n + 3) 4) count end.2;
-  }
+  run_made old new events replies runs = search (arith, unfrozen, rows_made, conversion_made, merge_made)

@@ -1,25 +1,20 @@
 -- Runs of events, from what each call does.
-use Rattle.silt_store_set.proofs.Common.{◌≡◌, Bool, true, false, IsTrue, List, [], ◌∷◌, ◌++◌, refl, ap, sym, subst, Ghosts, Event, Failed, Reply, Step, Legal, CoreState, map_of, Does, Runs}
+use Rattle.silt_store_set.proofs.Common.{subst, sym, ◌≡◌, Bool, IsTrue, List, [], ◌∷◌, ◌++◌, refl, ap, Ghosts, Event, Reply, Step, Legal, CoreState, map_of, Does, Runs}
+use Rattle.std.proofs.Common.{arith}
 use Rattle.silt_store_set.proofs.Calls.{step_refused}
 
 module _ {D F : Type 0} (facts : Ghosts D F) where
   -- a run goes on by one call
   pub runs_more : (old mid new : CoreState D) (events : List Event) (replies : List (Reply F)) (event : Event) (reply : Reply F)
       → Runs facts old events replies mid → Does facts mid new event reply → Runs facts old (events ++ event ∷ []) (replies ++ reply ∷ []) new
-  runs_more old mid new [] [] event reply runs does = (new, subst (λ c. Does facts c new event reply) runs does, refl)
-  runs_more old mid new (e ∷ events) (r ∷ replies) event reply runs does = (runs.0, runs.1, runs_more runs.0 mid new events replies event reply runs.2 does)
+  runs_more old mid new [] [] event reply runs does = (new, rw runs at does, refl)
+  runs_more old mid new (e ∷ events) (r ∷ replies) event reply runs does = (runs.0, runs.1, runs_more runs.0 mid new events _ event reply runs.2 does)
   runs_more old mid new events replies event reply runs does = absurd runs
 
   -- of a failed store, and of one that is not, the reply is that of a map
   pub does_step : (old new : CoreState D) (event : Event) (reply : Reply F) → IsTrue (facts.content old.disk).honest → Does facts old new event reply → Step (map_of old) event reply (map_of new)
   does_step old new event reply h does =
-      let go : (b : Bool) → old.failed ≡ b → Step (map_of old) event reply (map_of new) = elim [
-        | false ↦ λ working. does.step working h
-        | true ↦ λ failed.
-            let is = does.failed failed in
-            subst (λ (c : CoreState D). Step (map_of old) event reply (map_of c)) (sym is.0)
-            (subst (λ (r : Reply F). Step (map_of old) event r (map_of old)) (sym is.1) (step_refused (map_of old) event Failed))
-      ] in
+      let go : (b : Bool) → old.failed ≡ b → Step (map_of old) event reply (map_of new) = search (arith, step_refused, does.step, does.failed) in
       go old.failed refl
 
   -- the replies of a run are those of a map
@@ -29,5 +24,5 @@ module _ {D F : Type 0} (facts : Ghosts D F) where
   legal_runs old new (event ∷ events) (reply ∷ replies) h runs =
       let next = runs.0 in
       let there : IsTrue (facts.content next.disk).honest = subst IsTrue (sym runs.1.disk.honest) h in
-      (next.count, map_of next, runs.1.counts, does_step old next event reply h runs.1, legal_runs next new events replies there runs.2)
+      (next.count, map_of next, runs.1.counts, does_step old next event reply h runs.1, legal_runs next new events _ there runs.2)
   legal_runs old new events replies h runs = absurd runs

@@ -1,6 +1,6 @@
 -- A merge in progress has a step left.
-use Rattle.silt_store_set.proofs.Common.{◌≡◌, ◌≤◌, ℕ, ◌+◌, ◌*◌, Bool, false, IsTrue, Option, Some, None, IfSome, inl, inr, ap, subst, arith, cases_lt, Shape, Ghosts, key_count, MergeState}
-use Rattle.silt_store_set.proofs.Common.{oldest_stores, full_stores, merge_sources, sources_full, taken_sound, HasGathered, Stands, EngineState, IsMerging, BasisState, IsCore, CoreState, merge_work}
+use Rattle.silt_store_set.proofs.Common.{◌≡◌, ◌≤◌, ℕ, ◌+◌, ◌*◌, Bool, false, IsTrue, Option, Some, None, IfSome, inl, inr, arith, cases_lt, Ghosts, key_count, MergeState, oldest_stores}
+use Rattle.silt_store_set.proofs.Common.{sources_full, taken_sound, HasGathered, Stands, EngineState, IsMerging, BasisState, IsCore, CoreState, merge_work}
 use Rattle.silt_merge.specs.Rows.{sources}
 use Rattle.silt_merge.specs.State.{IsHeldMerge}
 use Rattle.silt_store_set.specs.CoreState.{IsWithinSteps}
@@ -12,9 +12,7 @@ few_gathered : (merge : MergeState) → IsHeldMerge merge → merge.store * (4 *
 few_gathered merge held = elim (cases_lt merge.store merge.stores) [
   | inl below ↦ let few = slot_below merge.store merge.stores merge.slot (4 * merge.shape.buckets) below held.slot in omega (arith, few)
   | inr past ↦
-      let all : merge.store ≡ merge.stores = omega (arith, past, held.store) in
-      let slots : merge.store * (4 * merge.shape.buckets) ≡ merge.stores * (4 * merge.shape.buckets) = ap (λ (n : ℕ). n * (4 * merge.shape.buckets)) all in
-      omega (arith, slots, held.ended all)
+      search (arith, held.ended)
 ]
 
 module _ {D F : Type 0} (facts : Ghosts D F) (disk : D) (stores : EngineState) (count : ℕ) (stands : Stands (facts.content disk) stores) where
@@ -25,11 +23,7 @@ module _ {D F : Type 0} (facts : Ghosts D F) (disk : D) (stores : EngineState) (
   left_in honest (Some merge) merging merged =
       let decided : merge.decided ≤ key_count (sources (facts.content disk).shown (oldest_stores merge.stores stores.hashes) stores.sorted) =
       (merged.0.merged honest (taken_sound (facts.content disk) stores stands honest merge.stores)).gathered.most in
-      let keys : key_count (merge_sources merge.stores (full_stores (facts.content disk) stores)) ≡ key_count
-      (sources (facts.content disk).shown (oldest_stores merge.stores stores.hashes) stores.sorted) =
-      ap key_count (sources_full (facts.content disk) stores stands honest merge.stores) in
-      let slots : merge.stores * (4 * merge.shape.buckets) ≡ merge.stores * (4 * stores.manifest.shape.buckets) = ap (λ (s : Shape). merge.stores * (4 * s.buckets)) merging.has_shape in
-      omega (arith, decided, keys, slots, few_gathered merge merging.held)
+      search (arith, sources_full, few_gathered)
 
   left : IsTrue (facts.content disk).honest → IfSome (merge_work stores.merging) (IsWithinSteps (seen facts disk stores count))
   left honest = left_in honest stores.merging stands.whole.merging stands.merged
@@ -38,6 +32,4 @@ module _ {D F : Type 0} (facts : Ghosts D F) (disk : D) (stores : EngineState) (
 pub left_seen : {D F : Type 0} (facts : Ghosts D F) (disk : D) (stores : EngineState) (count : ℕ) (failed : Bool) (basis : BasisState) (core : CoreState D)
     → seen_core facts disk stores count failed basis ≡ core
     → IsCore (facts.content disk) stores count failed basis → core.failed ≡ false → IsTrue (facts.content core.disk).honest → IfSome core.merging (IsWithinSteps core)
-left_seen facts disk stores count failed basis core is holds =
-    subst (λ (c : CoreState _). c.failed ≡ false → IsTrue (facts.content c.disk).honest → IfSome c.merging (IsWithinSteps c)) is
-    (λ working honest. left facts disk stores count (holds.stands working) honest)
+left_seen facts disk stores count failed basis core is holds = rw (← is) (λ working honest. left facts disk stores count (holds.stands working) honest)

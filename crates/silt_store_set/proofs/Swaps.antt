@@ -1,6 +1,6 @@
 -- Whether a key has the value that a swap expects, and what a swap does if it has another one or none can be read.
-use Rattle.silt_store_set.proofs.Common.{◌≡◌, ◌≢◌, ℕ, Bool, true, false, IsTrue, inl, List, Option, Some, None, refl, ap, ◌∙◌, is_some, get, Ghosts, Key, Swap, Refusal, Differs, Refused, Stands}
-use Rattle.silt_store_set.proofs.Common.{current_map, full_image, EngineState, image_map, Does, none_made}
+use Rattle.silt_store_set.proofs.Common.{◌≡◌, ◌≢◌, ℕ, Bool, true, false, IsTrue, inl, List, Option, Some, None, refl, ap, ◌∙◌, is_some, get, Ghosts, Key, Swap, Refusal, Differs, Refused}
+use Rattle.silt_store_set.proofs.Common.{Stands, current_map, full_image, EngineState, image_map, Does, none_made}
 use Rattle.std.proofs.Common.{◌↔◌}
 use Rattle.std.specs.Prelude.{not}
 use Rattle.std.specs.Option.{option_map}
@@ -12,9 +12,8 @@ use Rattle.silt_store_set.proofs.Gets.{looked_up}
 module _ {D F : Type 0} (facts : Ghosts D F) where
   module _ (disk : D) (stores : EngineState) (count : ℕ) (key : Key) (stands : Stands (facts.content disk) stores) where
     -- a value was found, and one is expected: the key has that one exactly if both are equal
-    pub holds_found : (expected : List ℕ) (same : Bool) (out : List ℕ)
-        → (IsTrue (facts.content disk).honest → get (current_map (facts.content disk) stores) key.0 ≡ Some out) → IsTrue same ↔ (out ≡ expected)
-        → IsTrue (facts.content disk).honest → IsTrue same ↔ (get (image_map (full_image (facts.content disk) stores)) key.0 ≡ Some expected)
+    pub holds_found : (expected : List ℕ) (same : Bool) (out : List ℕ) → (IsTrue (facts.content disk).honest → get (current_map (facts.content disk) stores) key.0 ≡ Some out)
+        → IsTrue same ↔ (out ≡ expected) → IsTrue (facts.content disk).honest → IsTrue same ↔ (get (image_map (full_image (facts.content disk) stores)) key.0 ≡ Some expected)
     holds_found expected same out there is h =
         let has_out = looked_up facts disk stores count key stands (Some out) there h in
         (λ t. has_out ∙ ap Some (is.0 t), λ has. is.1 (cc))

@@ -1,9 +1,9 @@
 -- Whether a command waits, by the numbers of the active log.
-use Rattle.silt_store_set.proofs.Common.{◌≡◌, ◌<◌, ◌-◌, Bool, false, true, List, [], ◌∷◌, length, map, nat_lt, cond, refl, ap, sym, arith, length-map, Content}
-use Rattle.silt_store_set.proofs.Common.{Command, command_of, LogState, waiting_rows, EngineState, waiting_commands, some_wait}
+use Rattle.silt_store_set.proofs.Common.{◌≡◌, Bool, false, true, List, [], ◌∷◌, map, nat_lt, cond, refl, ap, sym, arith, length-map, Content, Command, command_of, LogState, waiting_rows}
+use Rattle.silt_store_set.proofs.Common.{EngineState, waiting_commands, some_wait}
 use Rattle.std.proofs.lemmas.List.FromFn.{length-map-range_with_len}
 use Rattle.std.proofs.lemmas.Bool.Decides.{nat_tests}
-use Rattle.silt_log.specs.Rows.{row_at, rows_from}
+use Rattle.silt_log.specs.Rows.{rows_from}
 use Rattle.silt_log.specs.State.{InBounds}
 use Rattle.silt_engine.specs.Costs as engine
 use Rattle.silt_store_set.proofs.Openings.{none_wait}
@@ -11,9 +11,7 @@ use Rattle.silt_store_set.proofs.Openings.{none_wait}
 -- if no command waits, all rows are settled
 pub all_settled : (content : Content) (log : LogState) → InBounds log → map command_of (waiting_rows content log) ≡ [] → log.settled ≡ log.used
 unfolding rows_from
-all_settled content log bounds none =
-    let len : length (waiting_rows content log) ≡ log.used - log.settled = length-map-range_with_len (row_at log.shape log.region content.shown) log.settled (log.used - log.settled) in
-    omega (arith, bounds.order, len, length-map (waiting_rows content log) command_of, ap length none)
+all_settled content log bounds none = search (arith, length-map-range_with_len, length-map)
 
 -- if a command waits, some_wait is 1
 pub one_waits : (commands : List Command) → (commands ≡ [] → ⊥) → some_wait commands ≡ 1
@@ -24,11 +22,9 @@ one_waits (command ∷ commands) some = refl
 pub waits_same : (content : Content) (s : EngineState) → InBounds s.active.log → engine.row_waits s ≡ some_wait (waiting_commands content s)
 waits_same content s bounds =
     let go : (b : Bool) → nat_lt s.active.log.settled s.active.log.used ≡ b → cond b 1 0 ≡ some_wait (waiting_commands content s) = elim [
-      | true ↦ λ some.
-          let waits : s.active.log.settled < s.active.log.used = grind (arith, nat_tests, some) in
-          sym (one_waits (waiting_commands content s) (λ none. omega (arith, waits, all_settled content s.active.log bounds none)))
+      | true ↦ search (arith, one_waits, all_settled)
       | false ↦ λ none.
-          let settled : s.active.log.settled ≡ s.active.log.used = grind (arith, nat_tests, none, bounds.order) in
+          let settled : s.active.log.settled ≡ s.active.log.used = grind (arith, nat_tests, bounds.order) in
           sym (ap some_wait (ap (map command_of) (none_wait content s.active.log settled)))
     ] in
     go (nat_lt s.active.log.settled s.active.log.used) refl

@@ -3,20 +3,16 @@ use Rattle.silt_store_set.proofs.StepsLeft.{left_seen}
 use Rattle.silt_store_set.proofs.store_core.Core.standing.Goals as goal
 
 pub returns-clause-safe : goal.returns-clause-safe
-returns-clause-safe g c = (endures_seen g.D.Disk c.self.inside.disk c.self.inside.engine c.self.inside.count c.self.inside.failed
-    c.self.inside.basis c.args.self.now c.self.view_is c.self.invariant).safe
+returns-clause-safe g c = (endures_seen g.D.Disk _ _ _ _ _ _ c.self.view_is c.self.invariant).safe
 
 pub returns-clause-begun : goal.returns-clause-begun
-returns-clause-begun g c = (endures_seen g.D.Disk c.self.inside.disk c.self.inside.engine c.self.inside.count c.self.inside.failed
-    c.self.inside.basis c.args.self.now c.self.view_is c.self.invariant).begun
+returns-clause-begun g c = (endures_seen g.D.Disk _ _ _ _ _ _ c.self.view_is c.self.invariant).begun
 
 pub returns-clause-has_map : goal.returns-clause-has_map
-returns-clause-has_map g c = (endures_seen g.D.Disk c.self.inside.disk c.self.inside.engine c.self.inside.count c.self.inside.failed
-    c.self.inside.basis c.args.self.now c.self.view_is c.self.invariant).has_map
+returns-clause-has_map g c = (endures_seen g.D.Disk _ _ _ _ _ _ c.self.view_is c.self.invariant).has_map
 
 pub returns-clause-few : goal.returns-clause-few
-returns-clause-few g c = (endures_seen g.D.Disk c.self.inside.disk c.self.inside.engine c.self.inside.count c.self.inside.failed
-    c.self.inside.basis c.args.self.now c.self.view_is c.self.invariant).few
+returns-clause-few g c = (endures_seen g.D.Disk _ _ _ _ _ _ c.self.view_is c.self.invariant).few
 
 pub returns-clause-merging : goal.returns-clause-merging
-returns-clause-merging g c = left_seen g.D.Disk c.self.inside.disk c.self.inside.engine c.self.inside.count c.self.inside.failed c.self.inside.basis c.args.self.now c.self.view_is c.self.invariant
+returns-clause-merging g c = left_seen g.D.Disk _ _ _ _ _ _ c.self.view_is c.self.invariant
