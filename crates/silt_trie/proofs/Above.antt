@@ -1,5 +1,5 @@
 -- Lemmas on keys in rising order.
-use Rattle.silt_trie.proofs.Common.{◌≡◌, ℕ, ◌+◌, ◌-◌, ◌^◌, ◌<◌, ◌≤◌, true, List, [], ◌∷◌, ◌++◌, length, get_or, inl, inr, Option, Some, None, refl, sym, ap, ◌∙◌, subst, arith, Ordering, is_lt, Less}
+use Rattle.silt_trie.proofs.Common.{◌≡◌, ℕ, ◌+◌, ◌-◌, ◌^◌, ◌<◌, ◌≤◌, true, List, [], ◌∷◌, ◌++◌, length, get_or, Option, Some, None, refl, sym, ap, ◌∙◌, subst, arith, Ordering, is_lt, Less}
 use Rattle.silt_trie.proofs.Common.{get_or_push, length_push, slice_cmp, Key, Building, HasGroups, IsBuildingOf, group_of, group_under_way, Follows, IsCodable, bytes_of, cases_lt}
 use Rattle.std.proofs.Common.{nat_cmp}
 use Rattle.std.proofs.lemmas.List.{append_assoc, map-append}
@@ -26,14 +26,7 @@ pub may_follow : (a b : List ℕ) → length a ≡ 20 → length b ≡ 20 → ((
 may_follow a b size_a size_b small_a small_b is =
     let less = less_from (slice_cmp nat_cmp a b) is in
     let below = order_law a b small_a small_b ∙ less in
-    let first = below_at 0 a b less (λ k h. absurd (omega arith)) in
-    let in_a = group_is a (small_a 0) in
-    let in_b = group_is b (small_b 0) in
-    record {
-      above = record { sized = (size_a, size_b); below = below; alike = λ k h. absurd (omega arith) };
-      later = omega arith;
-      grouped = λ same. record { sized = (size_a, size_b); below = below; alike = group_law a b (sym in_a ∙ same ∙ in_b) };
-    }
+    search (arith, below_at, group_is, group_law)
 
 -- the bytes of keys with one more
 bytes_push : (keys : List Key) (key : Key) → bytes_of (keys ++ key ∷ []) ≡ bytes_of keys ++ key.0 ∷ []
@@ -46,7 +39,7 @@ last_key keys last end = rw end.1 (get_or_push end.0 last.0 [] (length (end.0 ++
 -- keys with one more can be coded
 pub codable_next : (keys : List (List ℕ)) (o : Option Key) (key : List ℕ) → IsCodable keys 0 → length keys + 2 < 2 ^ 32 → EndWith keys o
     → ((before : Key) → o ≡ Some before → MayFollow before.0 key) → IsCodable (keys ++ key ∷ []) 0
-codable_next keys None key codable few end next = let none = ap length end in codable_push 0 keys key codable few (λ some. absurd (omega arith))
+codable_next keys None key codable few end next = search (arith, codable_push)
 codable_next keys (Some last) key codable few end next =
     codable_push 0 keys key codable few (λ some. subst (λ (before : List ℕ). Follows 0 before key) (sym (last_key keys last end)) (next last refl).above)
 
@@ -76,17 +69,7 @@ building_of b = record { code = b.bits; marks = b.marks.items; group = b.group.i
 
 -- what holds of a builder stays true once groups are coded
 held_next : (n : ℕ) (old now : Building) → IsHeldBuilding old → ComesTo n old now → IsHeldBuilding now
-held_next n old now held comes = elim (cases_lt (group_under_way old.last) n) [
-  | inr upto ↦ rw (comes.same upto) held
-  | inl later ↦
-      let none = comes.empty later in
-      record {
-        levels = (omega arith, omega arith);
-        few = (omega (arith, ap length none), omega arith);
-        codable = rw none (codable_none 8);
-        last_is = λ key some. absurd (omega (arith, ap length none));
-      }
-]
+held_next n old now held comes = search (arith, cases_lt, codable_none, comes.same, comes.empty)
 
 -- the keys of the present group with one more can be coded
 pub waiting_push : (n : ℕ) (old now : Building) (key : Key) (new : List Key) → IsHeldBuilding now → ComesTo n old now → n ≡ group_of key.0 → now.count + 2 < 2 ^ 32
@@ -98,10 +81,7 @@ waiting_push n old now key new held comes group few next new_is =
     let is : old.last ≡ Some before = sym comes.stays.1 ∙ held.last_is key (omega arith) in
     let above = next before is in
     let way : group_under_way old.last ≡ group_of before.0 = ap group_under_way is in
-    let here : group_of before.0 ≡ group_of key.0 = elim (cases_lt (group_of before.0) (group_of key.0)) [
-      | inl earlier ↦ let none = ap length (comes.empty (omega arith)) in absurd (omega arith)
-      | inr upto ↦ omega (arith, above.later)
-    ] in
+    let here : group_of before.0 ≡ group_of key.0 = search (arith, cases_lt, comes.empty) in
     rw (size, bytes_at now.group (length now.group - 1) key (omega arith)) (above.grouped here) in
     rw (new_is, bytes_push) (codable_push 8 (bytes_of now.group) key.0 held.codable (omega arith) first)
 
@@ -109,15 +89,7 @@ waiting_push n old now key new held comes group few next new_is =
 pub held_push : (n : ℕ) (old now new : Building) (key : Key) → IsHeldBuilding old → ComesTo n old now → n ≡ group_of key.0 → old.count + 2 < 2 ^ 32
     → ((before : Key) → old.last ≡ Some before → MayFollow before.0 key.0) → new.group ≡ now.group ++ key ∷ [] → new.count ≡ now.count + 1
     → new.last ≡ Some key → new.levels ≡ now.levels → IsHeldBuilding new
-held_push n old now new key held comes group few next group_is count last levels =
-    let held_now = held_next n old now held comes in
-    let size = ap length group_is ∙ length_push now.group key in
-    record {
-      levels = (omega arith, omega arith);
-      few = (omega arith, omega arith);
-      codable = waiting_push n old now key new.group held_now comes group (omega arith) next group_is;
-      last_is = λ other some. cc (get_or_push now.group key other (length new.group - 1) (omega arith));
-    }
+held_push n old now new key held comes group few next group_is count last levels = search (arith, group_is, held_next, length_push, waiting_push, get_or_push)
 
 -- and the trie is built with it
 pub built_push : (n : ℕ) (old now new : Building) (key : Key) (keys : List (List ℕ)) → IsBuildingOf keys old → ComesTo n old now → n ≡ group_of key.0 → old.count + 2 < 2 ^ 32

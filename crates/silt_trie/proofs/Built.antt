@@ -4,7 +4,7 @@ use Rattle.silt_trie.proofs.Common.{IsBuildingOf, group_of, group_under_way, tri
 use Rattle.std.proofs.Common.{append-nil, length-append, take_all}
 use Rattle.silt_trie.proofs.Codes.{length-bytes_of}
 use Rattle.silt_trie.proofs.Gathered.{codable_none}
-use Rattle.silt_trie.proofs.Growing.{grows_more, grows_none}
+use Rattle.silt_trie.proofs.Growing.{grows_more}
 use Rattle.silt_trie.proofs.Groups.{code_grows, grouped_none, marks_grow, none_below, number_below, powers}
 use Rattle.silt_trie.proofs.MarkedKeys.{length-marks_of}
 
@@ -47,11 +47,8 @@ coded_group n keys old new place small has most levels count none place_is code 
       count_is = sym count ∙ has.count_is;
       lower = All-append (λ key. group_of key < n + 1) done waiting (λ i other h. let lower = has.lower i other h in omega arith) (λ i other h. let alike = has.alike i other h in omega arith);
       alike = λ i other h. absurd (omega arith);
-      code_is = code ∙ ap (λ (xs : List ℕ). xs ++ trie_code waiting 8) has.code_is ∙ sym (code_grows 8 n 0 8 done waiting refl has.lower has.alike small);
-      marks_are = marks ∙ ap (λ (ms : List Mark). ms ++ marks_of k 0 waiting 8 (length old.code) place) has.marks_are ∙ ap (λ (s : ℕ). front ++ marks_of k 0 waiting 8 s place) start
-          ∙ ap (λ (p : ℕ). front ++ marks_of k 0 waiting 8 (0 + length (grouped_code 8 done 0)) p) behind
-          ∙ sym (marks_grow 8 n old.levels k 0 8 0 0 done waiting refl (omega arith) has.lower has.alike small)
-          ∙ ap (λ (m : ℕ). take ((n + 1) * 2 ^ (m - 8)) (marks_of m 8 (done ++ waiting) 0 0 0)) levels;
+      code_is = cc (has.code_is, code_grows 8 n 0 8 done waiting refl has.lower has.alike small);
+      marks_are = cc (has.marks_are, marks_grow 8 n old.levels k 0 8 0 0 done waiting refl (omega arith) has.lower has.alike small, levels);
     }
 
 -- once all groups are coded, it is made of all keys
@@ -77,18 +74,6 @@ pub record CodesGroups (first at count levels : ℕ) (keys waiting : List Key) (
   pub few : length waiting ≤ count
   pub grown : Grows old code × Grows before marks
 
--- no group is coded yet
-pub codes_none : (first count levels : ℕ) (keys : List Key) (old : List ℕ) (before : List Mark) → IsCodable (bytes_of keys) 8
-    → length keys ≤ count → CodesGroups first first count levels keys keys old old before before
-codes_none first count levels keys old before codable few = record {
-  from = omega arith;
-  coded = λ all last has. has;
-  empty = λ h. absurd (omega arith);
-  codable = codable;
-  few = few;
-  grown = (grows_none old, grows_none before);
-}
-
 -- one group more
 pub codes_more : (first at count levels place : ℕ) (keys waiting : List Key) (old code new_code : List ℕ) (before marks new_marks : List Mark)
     → at < 256 → 8 ≤ levels → CodesGroups first at count levels keys waiting old code before marks
@@ -97,10 +82,9 @@ pub codes_more : (first at count levels place : ℕ) (keys waiting : List Key) (
 codes_more first at count levels place keys waiting old code new_code before marks new_marks small most codes place_is code_is marks_is =
     record {
       from = omega arith;
-      coded = λ all last has.
-          coded_group at all (record { code = code; marks = marks; group = waiting; count = count; last = last; levels = levels })
-          (record { code = new_code; marks = new_marks; group = []; count = count; last = last; levels = levels })
-          place small (codes.coded all last has) most refl refl refl place_is code_is marks_is;
+      coded = λ all last has. coded_group at all (record { code = code; marks = marks; group = waiting; count = count; last = last; levels = levels })
+          (record { code = new_code; marks = new_marks; group = []; count = count; last = last; levels = levels }) place small (codes.coded all last has) most refl
+          refl refl place_is code_is marks_is;
       empty = λ h. refl;
       codable = codable_none 8;
       few = omega arith;
@@ -149,5 +133,4 @@ pub finished : (b : Building) (from : ℕ) (code : List ℕ) (marks all_marks : 
 finished b from code marks all_marks keys start keys_are most coded behind all building =
     let has : HasGroups from all (record { code = b.code; marks = b.marks; group = keys; count = b.count; last = b.last; levels = b.levels }) = rw (start, keys_are) building.groups in
     let done : Building = record { code = code; marks = marks; group = []; count = b.count; last = b.last; levels = b.levels } in
-    made_of all done (trie_in (record b { code = code; marks = all_marks })) building.codable (coded all b.last has) most
-    (ap (λ (ms : List Mark). record { code = code; marks = ms; count = b.count; depth = 0; groups = 8; levels = b.levels }) behind)
+    made_of all done (trie_in (record b { code = code; marks = all_marks })) building.codable (coded all b.last has) most (search arith)

@@ -1,6 +1,6 @@
 -- Lemmas on the code of a trie.
-use Rattle.silt_trie.proofs.Common.{◌≡◌, ℕ, zero, suc, ◌+◌, ◌-◌, ◌<◌, ◌≤◌, List, [], ◌∷◌, ◌++◌, length, take, drop, get_or, refl, sym, ap, ◌∙◌, inl, inr, arith, length-drop, cases_lt}
-use Rattle.silt_trie.proofs.Common.{BeginsWithCode, bit_of, with_bit, trie_code, Follows, IsCodable, StandsAt, bytes_of, Key}
+use Rattle.silt_trie.proofs.Common.{◌≡◌, ℕ, suc, ◌+◌, ◌-◌, ◌<◌, ◌≤◌, List, [], ◌++◌, length, take, drop, get_or, refl, ap, ◌∙◌, inl, inr, arith, length-drop, cases_lt, BeginsWithCode}
+use Rattle.silt_trie.proofs.Common.{bit_of, with_bit, trie_code, Follows, IsCodable, StandsAt, bytes_of, Key}
 use Rattle.std.proofs.Common.{◌⊎◌}
 use Rattle.std.proofs.lemmas.List.{append_assoc, get_or-take, get_or-drop, take-map, drop-map, get_or-map, length-map}
 use Rattle.silt_gamma.specs.Gamma.{gamma_code}
@@ -11,18 +11,13 @@ use Rattle.silt_trie.proofs.Sides.{divides}
 -- fewer than two keys have no code
 short_within : (rest : ℕ) (keys : List (List ℕ)) (d : ℕ) → length keys < 2 → code_within rest keys d ≡ []
 unfolding code_within
-short_within zero keys d few = refl
-short_within (suc rest) [] d few = refl
-short_within (suc rest) (key ∷ []) d few = refl
-short_within (suc rest) (first ∷ second ∷ more) d few = absurd (omega arith)
+short_within rest keys d few = search arith
 
 -- the code of two keys or more, by its parts
 split_within : (rest : ℕ) (keys : List (List ℕ)) (d : ℕ) → 2 ≤ length keys
     → code_within (suc rest) keys d ≡ gamma_code (length (with_bit 0 d keys) + 1) ++ code_within rest (with_bit 0 d keys) (d + 1) ++ code_within rest (with_bit 1 d keys) (d + 1)
 unfolding code_within
-split_within rest [] d many = absurd (omega arith)
-split_within rest (key ∷ []) d many = absurd (omega arith)
-split_within rest (first ∷ second ∷ more) d many = refl
+split_within rest keys d many = search arith
 
 -- keys with no bits left have no code
 none_within : (keys : List (List ℕ)) (d : ℕ) → code_within 0 keys d ≡ []
@@ -64,21 +59,12 @@ pub stands_left : (d i : ℕ) (key : List ℕ) (keys : List (List ℕ)) → IsCo
 stands_left d i key keys codable stands low =
     let m = length (with_bit 0 d keys) in
     let split = divides d keys codable in
-    let here = ap (bit_of d) stands.1 in
-    let before : i < m = elim (cases_lt i m) [ inl below ↦ below | inr past ↦ let one_bit = split.ones i past stands.0 in absurd (omega arith) ] in
-    (before, ap (λ (ks : List (List ℕ)). get_or ks i []) split.lefts ∙ get_or-take m keys i [] before ∙ stands.1)
+    search (arith, cases_lt, get_or-take, split.ones)
 
 -- a key with bit 1 is on the right, after those on the left
 pub stands_right : (d i : ℕ) (key : List ℕ) (keys : List (List ℕ)) → IsCodable keys d → StandsAt keys i key → (bit_of d key ≡ 0 → ⊥)
     → (length (with_bit 0 d keys) ≤ i) × StandsAt (with_bit 1 d keys) (i - length (with_bit 0 d keys)) key
-stands_right d i key keys codable stands high =
-    let m = length (with_bit 0 d keys) in
-    let split = divides d keys codable in
-    let here = ap (bit_of d) stands.1 in
-    let count = length_rights d keys codable in
-    let past : m ≤ i = elim (cases_lt i m) [ inl below ↦ let zero_bit = split.zeros i below in absurd (high (omega arith)) | inr past ↦ past ] in
-    let place : m + (i - m) ≡ i = omega arith in
-    (past, (omega arith, ap (λ (ks : List (List ℕ)). get_or ks (i - m) []) split.rights ∙ get_or-drop m keys (i - m) [] ∙ ap (λ (j : ℕ). get_or keys j []) place ∙ stands.1))
+stands_right d i key keys codable stands high = search (arith, divides, length_rights, cases_lt, get_or-drop)
 
 -- keys that agree in all their bits are one key
 pub deep_few : (d : ℕ) (keys : List (List ℕ)) → IsCodable keys d → 160 ≤ d → length keys < 2
@@ -92,14 +78,12 @@ deep_few d keys codable deep = elim (cases_lt (length keys) 2) [
 -- the two parts of a slice of keys are the two sides
 pub bytes_lefts : (d left : ℕ) (keys lefts : List Key) → IsCodable (bytes_of keys) d → left ≡ length (with_bit 0 d (bytes_of keys))
     → lefts ≡ take left keys → bytes_of lefts ≡ with_bit 0 d (bytes_of keys)
-bytes_lefts d left keys lefts codable count is =
-    ap bytes_of is ∙ sym (take-map (λ (key : Key). key.0) left keys) ∙ ap (λ (n : ℕ). take n (bytes_of keys)) count ∙ sym ((divides d (bytes_of keys) codable).lefts)
+bytes_lefts d left keys lefts codable count is = search (arith, take-map, divides)
 
 -- the second part of a slice of keys is the right side
 pub bytes_rights : (d left : ℕ) (keys rights : List Key) → IsCodable (bytes_of keys) d → left ≡ length (with_bit 0 d (bytes_of keys))
     → rights ≡ drop left keys → bytes_of rights ≡ with_bit 1 d (bytes_of keys)
-bytes_rights d left keys rights codable count is =
-    ap bytes_of is ∙ sym (drop-map (λ (key : Key). key.0) left keys) ∙ ap (λ (n : ℕ). drop n (bytes_of keys)) count ∙ sym ((divides d (bytes_of keys) codable).rights)
+bytes_rights d left keys rights codable count is = search (arith, drop-map, divides)
 
 -- a key by its place
 pub bytes_at : (keys : List Key) (i : ℕ) (key : Key) → i < length keys → get_or (bytes_of keys) i [] ≡ (get_or keys i key).0
@@ -120,8 +104,7 @@ written d left keys lefts rights old first second third codable many within coun
     let rs = trie_code (bytes_of rights) (d + 1) in
     let l = bytes_lefts d left keys lefts codable count front in
     let r = bytes_rights d left keys rights codable count back in
-    let whole = split_code (bytes_of keys) d (omega (arith, length-bytes_of keys)) within in
-    cc (append_assoc old (gamma_code (left + 1)) ls, append_assoc old (gamma_code (left + 1) ++ ls) rs)
+    search (arith, split_code, length-bytes_of, append_assoc)
 
 -- bits behind a code that is empty
 pub after_none : (keys : List (List ℕ)) (d : ℕ) (bits rest : List ℕ) → IsCodable keys d → (length keys < 2) ⊎ (160 ≤ d) → bits ≡ trie_code keys d ++ rest → bits ≡ rest

@@ -1,5 +1,5 @@
 -- Lemmas for callers that gather keys one by one.
-use Rattle.silt_trie.proofs.Common.{◌≡◌, ℕ, ◌+◌, ◌-◌, ◌^◌, ◌<◌, List, [], ◌∷◌, ◌++◌, length, get_or, inl, inr, arith, cases_lt, get_or_append_left, get_or_push, length_push, Follows, IsCodable}
+use Rattle.silt_trie.proofs.Common.{◌≡◌, ℕ, ◌+◌, ◌-◌, ◌^◌, ◌<◌, List, [], ◌∷◌, ◌++◌, length, get_or, arith, cases_lt, get_or_append_left, get_or_push, length_push, Follows, IsCodable}
 
 -- no keys can be coded
 pub codable_none : (d : ℕ) → IsCodable [] d
@@ -13,13 +13,4 @@ codable_push d keys key codable few next =
     let n = length keys in
     let before : (i : ℕ) → i < n → get_or (keys ++ key ∷ []) i [] ≡ get_or keys i [] = λ i h. get_or_append_left keys (key ∷ []) [] i h in
     let last : (i : ℕ) → n ≡ i → get_or (keys ++ key ∷ []) i [] ≡ key = λ i e. get_or_push keys key [] i e in
-    record {
-      few = omega arith;
-      rising = λ i h. elim (cases_lt (i + 1) n) [
-        | inl inside ↦ rw (before i (omega arith), before (i + 1) inside) (codable.rising i inside)
-        | inr past ↦
-            let place : n - 1 ≡ i = omega arith in
-            let follows : Follows d (get_or keys i []) key = rw place at (next (omega arith)) in
-            rw (before i (omega arith), last (i + 1) (omega arith)) follows
-      ];
-    }
+    record { few = omega arith; rising = search (arith, cases_lt, codable.rising) }

@@ -1,6 +1,6 @@
 -- Lemmas on keys whose groups come one after the other.
-use Rattle.silt_trie.proofs.Common.{◌≡◌, ℕ, zero, suc, ◌+◌, ◌-◌, ◌*◌, ◌^◌, ◌<◌, ◌≤◌, List, [], ◌∷◌, ◌++◌, length, take, get_or, refl, sym, ap, ◌∙◌, inl, inr, arith, cases_eq, cases_lt, All-append}
-use Rattle.silt_trie.proofs.Common.{pow-succ', mul-le-mul_right, take-append-add, bit_of, with_bit, trie_code, grouped_code, marks_of, number_of_bits, prefix_of}
+use Rattle.silt_trie.proofs.Common.{◌≡◌, ℕ, zero, suc, ◌+◌, ◌-◌, ◌*◌, ◌^◌, ◌<◌, ◌≤◌, List, [], ◌∷◌, ◌++◌, length, take, refl, sym, ap, ◌∙◌, inl, inr, arith, cases_eq, cases_lt, All-append}
+use Rattle.silt_trie.proofs.Common.{pow-succ', take-append-add, bit_of, with_bit, trie_code, grouped_code, marks_of, number_of_bits, prefix_of}
 use Rattle.std.proofs.Common.{◌==◌, All, pow-add}
 use Rattle.std.proofs.lemmas.Bool.{eqb-true}
 use Rattle.std.proofs.lemmas.List.{append_assoc, append-nil, length-append, take_all, take-append-le}
@@ -64,7 +64,7 @@ none_below P (key ∷ keys) never all = absurd (never key (All-head P key keys a
 -- no keys have no code
 pub grouped_none : (g d : ℕ) → grouped_code g [] d ≡ []
 grouped_none zero d = short_code [] d (omega arith)
-grouped_none (suc g) d = ap (λ (xs : List ℕ). xs ++ grouped_code g [] (d + 1)) (grouped_none g (d + 1)) ∙ grouped_none g (d + 1)
+grouped_none (suc g) d = search (arith, grouped_none g (d + 1))
 
 -- keys whose next bit is 0 are all on the left
 low_group : (g d : ℕ) (keys : List (List ℕ)) → All (λ key. bit_of d key ≡ 0) keys → grouped_code (suc g) keys d ≡ grouped_code g keys (d + 1)
@@ -72,31 +72,21 @@ low_group g d keys low =
     let right = none_kept 1 0 d keys (λ e. absurd (omega arith)) low in
     cc (all_kept 0 d keys low, grouped_none g (d + 1), append-nil (grouped_code g keys (d + 1)))
 
--- those with bit 1 have lower numbers behind it
 -- keys with numbers in the lower half have bit 0, and behind it the same numbers
 lows : (g d : ℕ) (P : ℕ → Type 0) (keys : List (List ℕ)) → ((n : ℕ) → P n → n < 2 ^ g) → All (λ key. P (number_at (suc g) d key)) keys
     → All (λ key. bit_of d key ≡ 0) keys × All (λ key. P (number_at g (d + 1) key)) keys
-lows g d P keys below all = (
-  λ k other h. (low_half g d (get_or keys k other) (below _ (all k other h))).0,
-  λ k other h. rw (low_half g d (get_or keys k other) (below _ (all k other h))).1 (all k other h),
-)
+lows g d P keys below all = search (arith, low_half)
 
 -- keys with one number in the upper half have bit 1, and behind it a number that is less by this
 highs : (g n d : ℕ) (keys : List (List ℕ)) → 2 ^ g ≤ n → All (λ key. number_at (suc g) d key ≡ n) keys
     → All (λ key. bit_of d key ≡ 1) keys × All (λ key. number_at g (d + 1) key ≡ n - 2 ^ g) keys
-highs g n d keys high all = (
-  λ k other h. (high_half g d (get_or keys k other) (omega (arith, all k other h))).0,
-  λ k other h. omega (arith, all k other h, (high_half g d (get_or keys k other) (omega (arith, all k other h))).1),
-)
+highs g n d keys high all = search (arith, high_half)
 
 -- those with bit 1 have lower numbers behind it
 highs_lower : (g n d : ℕ) (keys : List (List ℕ)) → 2 ^ g ≤ n → All (λ key. number_at (suc g) d key < n) keys → All (λ key. number_at g (d + 1) key < n - 2 ^ g) (with_bit 1 d keys)
 highs_lower g n d keys high all k other h =
     let lower = All-filter (λ key. bit_of d key == 1) (λ key. number_at (suc g) d key < n) keys all k other h in
-    let passes = filter_passes (λ key. bit_of d key == 1) keys k other h in
-    let key = get_or (with_bit 1 d keys) k other in
-    let one = ap (λ (b : ℕ). b * 2 ^ g) (eqb-true (bit_of d key) 1 passes) in
-    omega (arith, number_split g d key)
+    search (arith, filter_passes, eqb-true, number_split)
 
 -- keys with bit 1 behind others change nothing on the left
 lefts_stay : (d : ℕ) (xs ys : List (List ℕ)) → All (λ key. bit_of d key ≡ 1) ys → with_bit 0 d (xs ++ ys) ≡ with_bit 0 d xs
@@ -109,13 +99,7 @@ rights_grow d xs ys high = rw (filter-append, all_kept 1 d ys high)
 -- each key is on one side
 pub length_sides : (d : ℕ) (keys : List (List ℕ)) → length (with_bit 0 d keys) + length (with_bit 1 d keys) ≡ length keys
 length_sides d [] = refl
-length_sides d (key ∷ keys) =
-    let rest = length_sides d keys in
-    let small = bit_small d key in
-    elim (cases_eq (bit_of d key) 0) [
-      | inl zero_bit ↦ rw (kept 0 d key keys zero_bit, left_out 1 d key keys (λ e. absurd (omega arith))) (omega arith)
-      | inr other ↦ rw (left_out 0 d key keys other, kept 1 d key keys (omega arith)) (omega arith)
-    ]
+length_sides d (key ∷ keys) = search (arith, length_sides d keys, bit_small, cases_eq, left_out)
 
 -- a power is a product
 pub powers : (m g k : ℕ) → m ≡ g + k → 2 ^ m ≡ 2 ^ g * 2 ^ k
@@ -124,10 +108,7 @@ powers m g k e = rw e (pow-add 2 g k)
 -- a group after lower ones: its code comes after theirs
 pub code_grows : (g n d e : ℕ) (xs ys : List (List ℕ)) → d + g ≡ e → All (λ key. number_at g d key < n) xs → All (λ key. number_at g d key ≡ n) ys → n < 2 ^ g
     → grouped_code g (xs ++ ys) d ≡ grouped_code g xs d ++ trie_code ys e
-code_grows zero n d e xs ys deep lower alike small =
-    let none : xs ≡ [] = none_below (λ key. number_at zero d key < n) xs (λ key below. omega arith) lower in
-    let same : d ≡ e = omega arith in
-    cc (short_code [] d (omega arith))
+code_grows zero n d e xs ys deep lower alike small = search (arith, none_below, short_code)
 code_grows (suc g) n d e xs ys deep lower alike small = elim (cases_lt n (2 ^ g)) [
   | inl low ↦
       let one = lows g d (λ m. m < n) xs (λ m h. omega arith) lower in
@@ -137,8 +118,7 @@ code_grows (suc g) n d e xs ys deep lower alike small = elim (cases_lt n (2 ^ g)
   | inr high ↦
       let double = pow-succ' 2 g in
       let two = highs g n d ys high alike in
-      let rest = code_grows g (n - 2 ^ g) (d + 1) e (with_bit 1 d xs) ys (omega arith) (highs_lower g n d xs high lower) two.1 (omega arith) in
-      cc (lefts_stay d xs ys two.0, rights_grow d xs ys two.0, append_assoc (grouped_code g (with_bit 0 d xs) (d + 1)) (grouped_code g (with_bit 1 d xs) (d + 1)) (trie_code ys e))
+      search (arith, code_grows g (n - 2 ^ g) (d + 1) e (with_bit 1 d xs) ys, highs_lower, lefts_stay, rights_grow, append_assoc)
 ]
 
 -- marks of both halves
@@ -155,8 +135,7 @@ front_marks m g k j d start place keys deep few =
     let rights = marks_of m g (with_bit 1 d keys) (d + 1) (start + length (grouped_code g (with_bit 0 d keys) (d + 1))) (place + length (with_bit 0 d keys)) in
     let size = length-marks_of m g (with_bit 0 d keys) (d + 1) start place in
     let all = powers m g k deep in
-    let within : j * 2 ^ k ≤ 2 ^ g * 2 ^ k = mul-le-mul_right (2 ^ k) few in
-    rw halves (take-append-le (j * 2 ^ k) lefts rights (omega arith))
+    search (arith, halves, take-append-le)
 
 -- the marks behind the left half are those of the right one
 back_marks : (m g k j d start place : ℕ) (keys : List (List ℕ)) → m ≡ g + k
@@ -175,27 +154,14 @@ back_marks m g k j d start place keys deep =
 -- and its marks come after theirs
 pub marks_grow : (g n m k d e start place : ℕ) (xs ys : List (List ℕ)) → d + g ≡ e → m ≡ g + k → All (λ key. number_at g d key < n) xs → All (λ key. number_at g d key ≡ n) ys → n < 2 ^ g
     → take ((n + 1) * 2 ^ k) (marks_of m g (xs ++ ys) d start place) ≡ take (n * 2 ^ k) (marks_of m g xs d start place) ++ marks_of k 0 ys e (start + length (grouped_code g xs d)) (place + length xs)
-marks_grow zero n m k d e start place xs ys deep more lower alike small =
-    let none : xs ≡ [] = none_below (λ key. number_at zero d key < n) xs (λ key below. omega arith) lower in
-    let code : length (grouped_code 0 xs d) ≡ 0 = cc (short_code [] d (omega arith)) in
-    let count = ap length none in
-    let first : n ≡ 0 = omega arith in
-    let same_depth : d ≡ e = omega arith in
-    let same_levels : m ≡ k = omega arith in
-    let same_start : start ≡ start + length (grouped_code 0 xs d) = omega arith in
-    let same_place : place ≡ place + length xs = omega arith in
-    let no_marks : n * 2 ^ k ≡ 0 = rw first (omega arith) in
-    let all : length (marks_of m 0 (xs ++ ys) d start place) ≤ (n + 1) * 2 ^ k = rw (first, same_levels, length-marks_of) (omega arith) in
-    cc (take_all ((n + 1) * 2 ^ k) (marks_of m 0 (xs ++ ys) d start place) all)
+marks_grow zero n m k d e start place xs ys deep more lower alike small = search (arith, none_below, short_code, length-marks_of, take_all)
 marks_grow (suc g) n zero k d e start place xs ys deep more lower alike small = absurd (omega arith)
 marks_grow (suc g) n (suc m) k d e start place xs ys deep more lower alike small = elim (cases_lt n (2 ^ g)) [
   | inl low ↦
       let one = lows g d (λ m. m < n) xs (λ m h. omega arith) lower in
       let two = lows g d (λ m. m ≡ n) ys (λ m h. omega arith) alike in
       let both = all_kept 0 d (xs ++ ys) (All-append (λ key. bit_of d key ≡ 0) xs ys one.0 two.0) in
-      let rest = marks_grow g n m k (d + 1) e start place xs ys (omega arith) (omega arith) one.1 two.1 low in
-      let after = front_marks m g k (n + 1) d start place (xs ++ ys) (omega arith) (omega arith) in
-      cc (front_marks m g k n d start place xs (omega arith) (omega arith), all_kept 0 d xs one.0, low_group g d xs one.0)
+      search (arith, marks_grow g n m k (d + 1) e start place xs ys, front_marks, all_kept, low_group)
   | inr high ↦
       let double = pow-succ' 2 g in
       let j = n - 2 ^ g in
@@ -208,13 +174,5 @@ marks_grow (suc g) n (suc m) k d e start place xs ys deep more lower alike small
       let place_is : past + length rights ≡ place + length xs = omega (arith, length_sides d xs) in
       let next : n + 1 ≡ 2 ^ g + (j + 1) = omega arith in
       let here : n ≡ 2 ^ g + j = omega arith in
-      let rest = marks_grow g j m k (d + 1) e behind past rights ys (omega arith) (omega arith) (highs_lower g n d xs high lower) two.1 (omega arith) in
-      let after = back_marks m g k (j + 1) d start place (xs ++ ys) (omega arith) in
-      let before = back_marks m g k j d start place xs (omega arith) in
-      cc (
-        lefts_stay d xs ys two.0,
-        rights_grow d xs ys two.0,
-        append_assoc (marks_of m g lefts (d + 1) start place) (take (j * 2 ^ k) (marks_of m g rights (d + 1) behind past))
-            (marks_of k 0 ys e (behind + length (grouped_code g rights (d + 1))) (past + length rights)),
-      )
+      search (arith, marks_grow g j m k (d + 1) e behind past rights ys, highs_lower, back_marks, lefts_stay, rights_grow, append_assoc)
 ]

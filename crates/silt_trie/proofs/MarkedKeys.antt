@@ -1,7 +1,7 @@
 -- Lemmas on marks.
-use Rattle.silt_trie.proofs.Common.{◌≡◌, ℕ, zero, suc, ◌+◌, ◌-◌, ◌*◌, ◌^◌, ◌<◌, ◌≤◌, min, max, List, [], ◌∷◌, ◌++◌, length, take, drop, get_or, Option, Some, refl, sym, ap, ◌∙◌, inl, inr, arith}
-use Rattle.silt_trie.proofs.Common.{length-drop, get_or-append-add, take-append-add, cases_lt, le-leb, lt-leb, pow-succ', bit_of, with_bit, trie_code, IsCodable, StandsAt, prefix_of, number_of_bits}
-use Rattle.silt_trie.proofs.Common.{grouped_code, marks_of, mark_behind, skip_levels, skips_of, MarkedCode, IsMadeOf, bytes_of, Key, Mark}
+use Rattle.silt_trie.proofs.Common.{◌≡◌, ℕ, zero, suc, ◌+◌, ◌-◌, ◌*◌, ◌^◌, ◌<◌, ◌≤◌, min, max, List, [], ◌∷◌, ◌++◌, length, take, drop, get_or, Option, Some, refl, sym, ap, ◌∙◌, inl, inr}
+use Rattle.silt_trie.proofs.Common.{arith, length-drop, get_or-append-add, take-append-add, cases_lt, le-leb, lt-leb, pow-succ', bit_of, with_bit, trie_code, IsCodable, StandsAt, prefix_of}
+use Rattle.silt_trie.proofs.Common.{number_of_bits, grouped_code, marks_of, mark_behind, skip_levels, skips_of, MarkedCode, IsMadeOf, bytes_of, Key, Mark}
 use Rattle.std.proofs.Common.{flat_map}
 use Rattle.std.proofs.lemmas.List.{append_assoc, append-nil, length-append, get_or_default, get_or-take, get_or-drop}
 use Rattle.std.proofs.lemmas.Grind.{flat_map-append}
@@ -19,21 +19,14 @@ head_split : (keys : List (List ℕ)) (d : ℕ) → IsCodable keys d → d < 160
     → trie_code keys d ≡ head_code 0 keys d ++ trie_code (with_bit 0 d keys) (d + 1) ++ trie_code (with_bit 1 d keys) (d + 1)
 head_split keys d codable within = elim (cases_lt (length keys) 2) [
   | inl few ↦
-      let upto = left_within d keys codable in
-      let others = length_rights d keys codable in
-      let lefts = short_code (with_bit 0 d keys) (d + 1) (omega arith) in
-      let rights = short_code (with_bit 1 d keys) (d + 1) (omega arith) in
-      cc (short_code keys d few, lt-leb 2 (length keys) few)
+      search (arith, left_within, length_rights, short_code, lt-leb)
   | inr many ↦ cc (split_code keys d many within, le-leb 2 (length keys) many)
 ]
 
 -- and so are the codes of groups
 pub grouped_split : (g : ℕ) (keys : List (List ℕ)) (d : ℕ) → IsCodable keys d → d < 160
     → grouped_code g keys d ≡ head_code g keys d ++ grouped_code (g - 1) (with_bit 0 d keys) (d + 1) ++ grouped_code (g - 1) (with_bit 1 d keys) (d + 1)
-grouped_split zero keys d codable within = head_split keys d codable within
-grouped_split (suc g) keys d codable within =
-    let e : g ≡ suc g - 1 = omega arith in
-    ap (λ (h : ℕ). grouped_code h (with_bit 0 d keys) (d + 1) ++ grouped_code h (with_bit 1 d keys) (d + 1)) e
+grouped_split g keys d codable within = search (arith, head_split)
 
 -- there is a mark for each prefix
 pub length-marks_of : (m g : ℕ) (keys : List (List ℕ)) (d start place : ℕ) → length (marks_of m g keys d start place) ≡ 2 ^ m
@@ -44,12 +37,7 @@ length-marks_of (suc m) g keys d start place = simp (length-append, length-marks
 first_mark : (m g : ℕ) (keys : List (List ℕ)) (d start place : ℕ) (more : List Mark) (other : Mark) → let first = get_or (marks_of m g keys d start place ++ more) 0 other in
     (first.place ≡ place) × (start ≤ first.start)
 first_mark zero g keys d start place more other = (refl, omega arith)
-first_mark (suc m) g keys d start place more other =
-    let behind = start + length (head_code g keys d) in
-    let lefts = with_bit 0 d keys in
-    let rights = marks_of m (g - 1) (with_bit 1 d keys) (d + 1) (behind + length (grouped_code (g - 1) lefts (d + 1))) (place + length lefts) in
-    let first = first_mark m (g - 1) lefts (d + 1) behind place (rights ++ more) other in
-    rw (append_assoc (marks_of m (g - 1) lefts (d + 1) behind place) rights more) (first.0, omega arith)
+first_mark (suc m) g keys d start place more other = search (arith, first_mark m (g - 1), append_assoc)
 
 -- What a mark means for the keys with a prefix, if the code of all keys begins at `start`, `place` keys come before them, and e is
 -- the depth behind the prefix
@@ -68,19 +56,11 @@ pub record Marked (p : List ℕ) (d e start place : ℕ) (bits : List ℕ) (keys
 
 -- a key on the left is one of all keys
 from_left : (d i : ℕ) (key : List ℕ) (keys : List (List ℕ)) → IsCodable keys d → StandsAt (with_bit 0 d keys) i key → StandsAt keys i key × (bit_of d key ≡ 0)
-from_left d i key keys codable stands =
-    let split = divides d keys codable in
-    let same : get_or keys i [] ≡ key = cc (get_or-take (length (with_bit 0 d keys)) keys i [] stands.0) in
-    ((omega arith, same), cc (split.zeros i stands.0))
+from_left d i key keys codable stands = search (arith, divides, get_or-take)
 
 -- and so is a key on the right, after those on the left
 from_right : (d i : ℕ) (key : List ℕ) (keys : List (List ℕ)) → IsCodable keys d → StandsAt (with_bit 1 d keys) i key → StandsAt keys (length (with_bit 0 d keys) + i) key × (bit_of d key ≡ 1)
-from_right d i key keys codable stands =
-    let m = length (with_bit 0 d keys) in
-    let split = divides d keys codable in
-    let count = length_rights d keys codable in
-    let same : get_or keys (m + i) [] ≡ key = cc (get_or-drop m keys i []) in
-    ((omega arith, same), cc (split.ones (m + i) (omega arith) (omega arith)))
+from_right d i key keys codable stands = search (arith, divides, length_rights, get_or-drop)
 
 -- a mark of the keys on the left is one of all keys
 marked_left : (p : List ℕ) (d e start place : ℕ) (bits head lefts rights : List ℕ) (keys : List (List ℕ)) (mark next : Mark) → IsCodable keys d → bits ≡ head ++ lefts ++ rights
@@ -124,13 +104,11 @@ marked_right p d e start place bits head lefts rights keys mark next codable par
           let one_bit : bit_of d key ≡ 1 = cc in
           let right = stands_right d i key keys codable stands (λ e. absurd (omega arith)) in
           let found = inside.stands (i - n) key right.1 (cc) in
-          let place_is : place + n + (i - n) - mark.place ≡ place + i - mark.place = omega arith in
-          (omega arith, rw place_is at found.1);
+          search arith;
       from = λ i h.
           let found = inside.from i h in
           let here = from_right d (mark.place + i - (place + n)) (get_or below i []) keys codable found.1 in
-          let place_is : n + (mark.place + i - (place + n)) ≡ mark.place + i - place = omega arith in
-          (omega arith, rw place_is at here.0, cc (here.1, found.2));
+          search arith;
     }
 
 -- each mark is one, if the marks that follow begin behind all keys
@@ -233,11 +211,7 @@ prefix_small m d at key few is =
 
 -- the mark of a key and the next one are there
 pub in_range : (made : MarkedCode) (keys : List (List ℕ)) (at : ℕ) (key : List ℕ) → IsMadeOf keys made → at ≡ number_of_bits (prefix_of made.levels made.depth key) → at + 1 < length made.marks
-in_range made keys at key is at_is =
-    let p = prefix_of made.levels made.depth key in
-    let small = rw (length-prefix_of made.levels made.depth key) at (number_small p (prefix_bits made.levels made.depth key)) in
-    let count : length made.marks ≡ 2 ^ made.levels + 1 = rw (is.marks_are, length-append, length-marks_of) refl in
-    omega arith
+in_range made keys at key is at_is = search (arith, length-prefix_of, number_small, prefix_bits, length-append, length-marks_of)
 
 -- between a key's mark and the next one is the key's place
 pub located : (made : MarkedCode) (keys : List (List ℕ)) (i at : ℕ) (key : List ℕ) (mark next : Mark) (found : Option ℕ)
@@ -267,12 +241,7 @@ pub code_marked : (g h d left : ℕ) (keys lefts rights : List Key) (old first s
     → first ≡ old ++ head_code g (bytes_of keys) d → second ≡ first ++ grouped_code h (bytes_of lefts) (d + 1) → third ≡ second
     ++ grouped_code h (bytes_of rights) (d + 1) → third ≡ old ++ grouped_code g (bytes_of keys) d
 code_marked g h d left keys lefts rights old first second third codable within next count front back one two three =
-    let head = head_code g (bytes_of keys) d in
-    let ls = grouped_code (g - 1) (with_bit 0 d (bytes_of keys)) (d + 1) in
-    let rs = grouped_code (g - 1) (with_bit 1 d (bytes_of keys)) (d + 1) in
-    let l = bytes_lefts d left keys lefts codable count front in
-    let r = bytes_rights d left keys rights codable count back in
-    cc (grouped_split g (bytes_of keys) d codable within, append_assoc old head ls, append_assoc old (head ++ ls) rs)
+    search (arith, bytes_lefts, bytes_rights, back, grouped_split, append_assoc)
 
 -- and their marks
 pub marks_marked : (m g h d left place : ℕ) (keys lefts rights : List Key) (old first second : List ℕ) (marks one two : List Mark)
@@ -281,14 +250,7 @@ pub marks_marked : (m g h d left place : ℕ) (keys lefts rights : List Key) (ol
     → one ≡ marks ++ marks_of (m - 1) h (bytes_of lefts) (d + 1) (length first) place → two ≡ one ++ marks_of (m - 1) h (bytes_of rights) (d + 1) (length second) (place + left)
     → two ≡ marks ++ marks_of m g (bytes_of keys) d (length old) place
 marks_marked m g h d left place keys lefts rights old first second marks one two codable some next count front back first_is second_is one_is two_is =
-    let head = head_code g (bytes_of keys) d in
-    let ls = grouped_code h (bytes_of lefts) (d + 1) in
-    let l = bytes_lefts d left keys lefts codable count front in
-    let r = bytes_rights d left keys rights codable count back in
-    let behind : length first ≡ length old + length head = cc (length-append old head) in
-    let deeper : length second ≡ length old + length head + length ls = cc (length-append first ls) in
-    let whole : m ≡ suc (m - 1) = omega arith in
-    cc (append_assoc marks (marks_of (m - 1) h (bytes_of lefts) (d + 1) (length first) place) (marks_of (m - 1) h (bytes_of rights) (d + 1) (length second) (place + left)))
+    search (arith, bytes_lefts, bytes_rights, back, length-append, append_assoc)
 
 -- one bit more of a number
 pub number_step : (n rest less at bit : ℕ) (key : List ℕ) (all : ℕ) → bit ≡ bit_of at key → rest ≡ suc less
@@ -297,8 +259,7 @@ number_step n rest less at bit key all bit_is e is =
     let size = length-prefix_of less (at + 1) key in
     let split : number_of_bits (prefix_of rest at key) ≡ bit * 2 ^ less + number_of_bits (prefix_of less (at + 1) key) = cc in
     let double : n * 2 ^ rest ≡ n * (2 * 2 ^ less) = cc (pow-succ' 2 less) in
-    let apart : (2 * n + bit) * 2 ^ less ≡ n * (2 * 2 ^ less) + bit * 2 ^ less = grind arith in
-    omega arith
+    search arith
 
 -- and it has one bit more
 pub number_grows : (n before after bit : ℕ) → n < 2 ^ before → bit < 2 → after ≡ suc before → 2 * n + bit < 2 ^ after
@@ -307,10 +268,7 @@ number_grows n before after bit small one e = let double = ap (λ (k : ℕ). 2 ^
 -- the code in groups, with e as the depth behind them
 groups_at : (g d e : ℕ) (keys : List (List ℕ)) → d + g ≡ e → grouped_code g keys d ≡ flat_map (λ prefix. trie_code (sub_keys keys d prefix) e) (prefixes g)
 groups_at zero d e keys deep = let same : e ≡ d = omega arith in rw same (sym (append-nil (trie_code keys d)))
-groups_at (suc g) d e keys deep =
-    let lefts = groups_at g (d + 1) e (with_bit 0 d keys) (omega arith) in
-    let rights = groups_at g (d + 1) e (with_bit 1 d keys) (omega arith) in
-    simp (lefts, rights, flat_map-append, flat_map-map)
+groups_at (suc g) d e keys deep = search (arith, groups_at g (d + 1) e (with_bit 0 d keys), groups_at g (d + 1) e (with_bit 1 d keys), flat_map-append, flat_map-map)
 
 -- the law of groups
 pub groups_law : GroupsLaw

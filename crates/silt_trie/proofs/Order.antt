@@ -1,13 +1,13 @@
 -- Lemmas on the order of keys, by bytes and by bits.
-use Rattle.silt_trie.proofs.Common.{◌≡◌, ℕ, zero, suc, ◌*◌, ◌/◌, ◌%◌, ◌^◌, ◌<◌, ◌≤◌, true, List, [], ◌∷◌, ◌++◌, length, get_or, replicate, refl, sym, ap, ◌∙◌, inl, inr, arith, Ordering, Less}
-use Rattle.silt_trie.proofs.Common.{get_or_append_left, cases_lt, cases_order, ne_eqb, mod_below, mul-le-mul_right, pow-succ', slice_cmp, low_bits, bits_of, length-low_bits, bit_of, AgreeIn}
-use Rattle.silt_trie.proofs.Common.{Follows}
+use Rattle.silt_trie.proofs.Common.{◌≡◌, ℕ, zero, suc, ◌*◌, ◌/◌, ◌%◌, ◌^◌, ◌<◌, ◌≤◌, true, List, [], ◌∷◌, ◌++◌, length, get_or, replicate, refl, sym, ap, ◌∙◌, inl, inr, arith, Ordering}
+use Rattle.silt_trie.proofs.Common.{Less, get_or_append_left, cases_lt, cases_order, ne_eqb, mod_below, mul-le-mul_right, pow-succ', slice_cmp, low_bits, bits_of, length-low_bits, bit_of}
+use Rattle.silt_trie.proofs.Common.{AgreeIn, Follows}
 use Rattle.std.proofs.Common.{ltb, Equal, Greater}
 use Rattle.std.proofs.lemmas.List.{ext_get_or}
 use Rattle.std.proofs.lemmas.Bool.{lt-ltb, le-ltb, ltb-true}
 use Rattle.std.proofs.lemmas.Cmp.{tied_itself, nat_cmp_total, nat_list_cmp_total}
 use Rattle.std.proofs.lemmas.Nat.{div_below, pow_pos, div-add-mod'}
-use Rattle.std.proofs.Math.Nat.{mod-eq_of_lt, div-mul-le_self, lt-div-mul-add, suc-mul}
+use Rattle.std.proofs.Math.Nat.{mod-eq_of_lt}
 use Rattle.std.specs.Ordering.{nat_cmp, ordering_then}
 use Rattle.silt_gamma.proofs.BitLists.{length-bits_of, low_bits_mod}
 use Rattle.silt_trie.specs.Code.{OrderLaw, GroupLaw}
@@ -33,32 +33,20 @@ first_not_above x y o less = elim (cases_lt y x) [ inl above ↦ absurd (cc (hig
 pub below_at : (d : ℕ) (a b : List ℕ) → slice_cmp nat_cmp a b ≡ Less → ((k : ℕ) → k < d → get_or a k 0 ≡ get_or b k 0) → get_or a d 0 ≤ get_or b d 0
 below_at d [] b less same = omega arith
 below_at d (x ∷ xs) [] less same = absurd (cc)
-below_at zero (x ∷ xs) (y ∷ ys) less same = first_not_above x y (slice_cmp nat_cmp xs ys) less
+below_at zero (x ∷ xs) (y ∷ ys) less same = first_not_above x y _ less
 below_at (suc d) (x ∷ xs) (y ∷ ys) less same = let equals = tied x y (same 0 (omega arith)) in below_at d xs ys (cc) (λ k h. same (suc k) (omega arith))
 
 -- numbers compare by their quotients, and then by their remainders
 by_parts : (p x y : ℕ) (o : Ordering) → 0 < p → ordering_then (nat_cmp (x / p) (y / p)) (ordering_then (nat_cmp (x % p) (y % p)) o) ≡ ordering_then (nat_cmp x y) o
 by_parts p x y o some = elim (cases_order (x / p) (y / p)) [
   | inl same ↦
-      let wx = div-add-mod' x p in
-      let wy = div-add-mod' y p in
-      let product = ap (λ (q : ℕ). q * p) same in
-      let first = tied (x / p) (y / p) same in
-      elim (cases_order (x % p) (y % p)) [
-        | inl e ↦ cc (tied (x % p) (y % p) e, tied x y (omega arith))
-        | inr (inl below) ↦ cc (lower (x % p) (y % p) below, lower x y (omega arith))
-        | inr (inr above) ↦ cc (higher (x % p) (y % p) above, higher x y (omega arith))
-      ]
+      search (arith, div-add-mod', tied, cases_order, higher)
   | inr (inl below) ↦
       let next : suc (x / p) * p ≤ y / p * p = mul-le-mul_right p (omega arith) in
-      let upto = div-mul-le_self y p in
-      let from = lt-div-mul-add {a = x} some in
-      cc (lower (x / p) (y / p) below, lower x y (omega (arith, suc-mul (x / p) p)))
+      search arith
   | inr (inr above) ↦
       let next : suc (y / p) * p ≤ x / p * p = mul-le-mul_right p (omega arith) in
-      let upto = div-mul-le_self x p in
-      let from = lt-div-mul-add {a = y} some in
-      cc (higher (x / p) (y / p) above, higher x y (omega (arith, suc-mul (y / p) p)))
+      search (arith, higher)
 ]
 
 -- the same of the bits of two numbers, whatever follows
@@ -69,8 +57,7 @@ word_order (suc w) x y xs ys p q =
     let some : 0 < 2 ^ w = pow_pos w in
     let hx : x / 2 ^ w % 2 ≡ x / 2 ^ w = mod-eq_of_lt (div_below x (2 ^ w) 2 some (omega arith)) in
     let hy : y / 2 ^ w % 2 ≡ y / 2 ^ w = mod-eq_of_lt (div_below y (2 ^ w) 2 some (omega arith)) in
-    let rest = word_order w (x % 2 ^ w) (y % 2 ^ w) xs ys (mod_below x (2 ^ w) some) (mod_below y (2 ^ w) some) in
-    cc (low_bits_mod w x, low_bits_mod w y, by_parts (2 ^ w) x y (slice_cmp nat_cmp xs ys) some)
+    search (arith, word_order w (x % 2 ^ w) (y % 2 ^ w) xs ys (mod_below x (2 ^ w) some) (mod_below y (2 ^ w) some), mod_below, low_bits_mod, by_parts)
 
 -- keys compare by their bits as by their bytes
 pub order_law : OrderLaw
@@ -90,7 +77,7 @@ get_or-replicate_any (suc n) (suc k) = get_or-replicate_any n k
 -- one of the first 8 bits, by the first byte
 first_bits : (k : ℕ) (a : List ℕ) → k < 8 → bit_of k a ≡ get_or (low_bits 8 (get_or a 0 0)) k 0
 first_bits k [] h = sym (get_or-replicate_any 8 k)
-first_bits k (x ∷ a) h = let eight = length-low_bits 8 x in get_or_append_left (low_bits 8 x) (bits_of a) 0 k (omega arith)
+first_bits k (x ∷ a) h = search (arith, length-low_bits, get_or_append_left)
 
 -- the first byte decides the first 8 bits
 pub group_law : GroupLaw
@@ -100,16 +87,13 @@ group_law a b same k h = first_bits k a h ∙ ap (λ (x : ℕ). get_or (low_bits
 below_from : (d : ℕ) (a b : List ℕ) → ((k : ℕ) → k < d → get_or a k 0 ≡ get_or b k 0) → d < length a → d < length b → get_or a d 0 < get_or b d 0 → slice_cmp nat_cmp a b ≡ Less
 below_from d [] b same in_a in_b less = absurd (omega arith)
 below_from d (x ∷ xs) [] same in_a in_b less = absurd (omega arith)
-below_from zero (x ∷ xs) (y ∷ ys) same in_a in_b less = ap (λ (c : Ordering). ordering_then c (slice_cmp nat_cmp xs ys)) (lower x y less)
+below_from zero (x ∷ xs) (y ∷ ys) same in_a in_b less = search arith
 below_from (suc d) (x ∷ xs) (y ∷ ys) same in_a in_b less =
     ap (λ (c : Ordering). ordering_then c (slice_cmp nat_cmp xs ys)) (tied x y (same 0 (omega arith))) ∙ below_from d xs ys (λ k h. same (suc k) (omega arith)) (omega arith) (omega arith) less
 
 -- keys that agree before a bit that differs follow by that bit
 pub follows_from : (d at : ℕ) (a b : List ℕ) → length a ≡ 20 → length b ≡ 20 → at < 160 → d ≤ at → AgreeIn at a b → (bit_of at a ≡ bit_of at b → ⊥) → bit_of at a ≡ 0 → Follows d a b
-follows_from d at a b size_a size_b within upto same differ low =
-    let bits_a = length-bits_of a in
-    let bits_b = length-bits_of b in
-    record { sized = (size_a, size_b); below = below_from at (bits_of a) (bits_of b) same (omega arith) (omega arith) (omega arith); alike = λ k h. same k (omega arith) }
+follows_from d at a b size_a size_b within upto same differ low = search (arith, length-bits_of, below_from)
 
 -- keys that agree in all bits do not follow one another
 pub not_tied : (d : ℕ) (a b : List ℕ) → AgreeIn 160 a b → Follows d a b → ⊥
@@ -125,7 +109,4 @@ not_alike d at a b below differ next = differ (next.alike at below)
 -- the test that decides: which of the two has bit 0 there
 pub follows_test : (d at bit other : ℕ) (a b : List ℕ) → length a ≡ 20 → length b ≡ 20 → at < 160 → d ≤ at → AgreeIn at a b → (bit_of at a ≡ bit_of at b → ⊥) → bit ≡ bit_of at a → other ≡ bit_of at b
     → (ltb bit other ≡ true → Follows d a b) × (Follows d a b → ltb bit other ≡ true)
-follows_test d at bit other a b size_a size_b within upto same differ is are = (
-  λ yes. let below = ltb-true bit other yes in let small = bit_small at b in follows_from d at a b size_a size_b within upto same differ (omega arith),
-  λ next. let least = below_at at _ _ next.below same in lt-ltb bit other (omega arith),
-)
+follows_test d at bit other a b size_a size_b within upto same differ is are = search (arith, ltb-true, bit_small, follows_from, below_at, lt-ltb)

@@ -1,5 +1,5 @@
 -- Lemmas on codes that are still to be skipped.
-use Rattle.silt_trie.proofs.Common.{◌≡◌, ℕ, zero, suc, ◌+◌, ◌-◌, ◌<◌, ◌≤◌, min, List, ◌++◌, length, get_or, refl, sym, ap, ◌∙◌, inl, inr, arith, length-set, set, cases_lt, le-leb, lt-leb}
+use Rattle.silt_trie.proofs.Common.{◌≡◌, ℕ, zero, suc, ◌+◌, ◌-◌, ◌<◌, ◌≤◌, min, List, ◌++◌, length, get_or, ap, ◌∙◌, inl, inr, arith, length-set, set, cases_lt, le-leb, lt-leb}
 use Rattle.silt_trie.proofs.Common.{BeginsWithCode, trie_code, with_bit, IsCodable}
 use Rattle.std.proofs.Common.{leb, get_or-set_other, get_or-set_same}
 use Rattle.std.specs.Int.{from_bool}
@@ -36,13 +36,7 @@ same_below d (suc t) counts others bits rest same pending =
 pub push_one : (d t e n top : ℕ) (counts bits more rest : List ℕ) (keys : List (List ℕ)) → IsCodable keys e → n ≡ length keys → d + t ≤ e → t < length counts → bits ≡ trie_code keys e ++ more
     → (2 ≤ n → top ≡ suc t) → (n < 2 → top ≡ t) → Pending d counts t more rest → Pending d (set counts t n) top bits rest
 push_one d t e n top counts bits more rest keys codable count deep within is long short pending =
-    let below : (j : ℕ) → j < t → get_or counts j 0 ≡ get_or (set counts t n) j 0 = λ j h. sym (get_or-set_other counts t j n 0 (λ same. absurd (omega arith))) in
-    let kept = same_below d t counts (set counts t n) more rest below pending in
-    elim (cases_lt n 2) [
-      | inl few ↦ let none : bits ≡ more = cc (short_code keys e (omega arith)) in rw (short few, none) kept
-      | inr many ↦ rw (long many)
-          (keys, e, more, record { codable = codable; many = omega arith; count = sym count ∙ sym (get_or-set_same counts t n 0 within); deep = deep }, is, kept)
-    ]
+    search (arith, get_or-set_other, same_below, cases_lt, short_code, get_or-set_same, deep)
 
 -- there are no more than there are depths
 pub few_pending : (d t : ℕ) (counts bits rest : List ℕ) → Pending d counts t bits rest → t ≤ 160
@@ -76,16 +70,4 @@ turn d t next left right r s counts bits after rest pending size within reads le
     let waits = pending.3 in
     let codable = waits.codable in
     let read = reads (length (with_bit 0 e keys) + 1) _ (node keys e bits more codable waits.many (inside keys e codable waits.many) pending.4) in
-    let upto = left_within e keys codable in
-    let others = length_rights e keys codable in
-    let left_count : left ≡ length (with_bit 0 e keys) = omega arith in
-    let right_count : right ≡ length (with_bit 1 e keys) = omega arith in
-    let on_right = counted right r r_is in
-    let on_left = counted left s s_is in
-    let r_small : r ≤ 1 = elim (cases_lt right 2) [ inl few ↦ omega (arith, on_right.1 few) | inr many ↦ omega (arith, on_right.0 many) ] in
-    let one = push_one d t (e + 1) right (t + r) counts (trie_code (with_bit 1 e keys) (e + 1) ++ more) more rest (with_bit 1 e keys)
-    (rights_codable e keys codable) right_count (omega arith) (omega arith) refl (λ many. omega (arith, on_right.0 many)) (λ few. omega (arith, on_right.1 few)) pending.5
-    in
-    let sized = length-set counts t right in
-    push_one d (t + r) (e + 1) left (t + r + s) (set counts t right) after (trie_code (with_bit 1 e keys) (e + 1) ++ more) rest
-    (with_bit 0 e keys) (lefts_codable e keys codable) left_count (omega arith) (omega arith) read.1 (λ many. omega (arith, on_left.0 many)) (λ few. omega (arith, on_left.1 few)) one
+    search (arith, left_within, length_rights, cases_lt, push_one, rights_codable, length-set, lefts_codable)

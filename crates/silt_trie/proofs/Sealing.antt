@@ -1,18 +1,13 @@
 -- Lemmas on a builder that makes its trie.
-use Rattle.silt_trie.proofs.Common.{Mark, ◌≡◌, ℕ, List, length, take, true, Option, None, Some, refl, sym, subst, ap, ◌∙◌, take_at, Building, IsBuildingOf, trie_in, Grows, IsMadeOf, MarkedCode, Cut}
-use Rattle.std.proofs.Common.{IfSome, is_some, false}
+use Rattle.silt_trie.proofs.Common.{◌≡◌, ℕ, List, length, true, Option, None, Some, refl, subst, take_at, Building, IsBuildingOf, trie_in, Grows, IsMadeOf, MarkedCode, Cut}
+use Rattle.std.proofs.Common.{IfSome, is_some, false, arith}
 use Rattle.std.specs.Option.{option_map}
 use Rattle.silt_trie.specs.Building.{BuilderState, IsTrieOf, opened}
 
 -- what was appended is cut off
 pub opened_again : (old new : Building) (bits marks : ℕ) → new ≡ record old { code = new.code; marks = new.marks } → Grows old.code new.code × Grows old.marks new.marks
     → bits ≡ length old.code → marks ≡ length old.marks → opened (Some (record { bits = bits; marks = marks })) new ≡ old
-opened_again old new bits marks rest grows bits_are marks_are =
-    let code : take bits new.code ≡ old.code = cc (take_at old.code grows.0.0 bits (sym bits_are)) in
-    let kept : take marks new.marks ≡ old.marks = cc (take_at old.marks grows.1.0 marks (sym marks_are)) in
-    ap (λ (b : Building). record b { code = take bits new.code; marks = take marks new.marks }) rest
-    ∙ ap (λ (c : List ℕ). record old { code = c; marks = take marks new.marks }) code
-    ∙ ap (λ (ms : List Mark). record old { code = old.code; marks = ms }) kept
+opened_again old new bits marks rest grows bits_are marks_are = search (arith, take_at)
 
 -- and the trie is that of what was built
 pub trie_of_opened : (old new : Building) (bits marks : ℕ) → new ≡ record old { code = new.code; marks = new.marks } → Grows old.code new.code × Grows old.marks new.marks

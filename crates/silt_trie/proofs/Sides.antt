@@ -1,6 +1,6 @@
 -- Lemmas on the two sides of keys at a bit.
-use Rattle.silt_trie.proofs.Common.{◌≡◌, ℕ, zero, suc, ◌+◌, ◌<◌, ◌≤◌, List, [], ◌∷◌, length, take, drop, get_or, refl, sym, ap, ◌∙◌, inl, inr, arith, length-drop, cases_eq, cases_lt, cases_order}
-use Rattle.silt_trie.proofs.Common.{ne_eqb, bit_of, with_bit, AgreeIn, Follows, IsCodable}
+use Rattle.silt_trie.proofs.Common.{◌≡◌, ℕ, zero, suc, ◌+◌, ◌<◌, ◌≤◌, List, [], ◌∷◌, length, take, drop, get_or, refl, sym, ap, ◌∙◌, inl, inr, arith, length-drop, cases_eq, cases_lt}
+use Rattle.silt_trie.proofs.Common.{cases_order, ne_eqb, bit_of, with_bit, AgreeIn, Follows, IsCodable}
 use Rattle.std.proofs.Common.{Bool, cond, add-one, get_or-take, get_or-drop, length-take-le}
 use Rattle.std.proofs.lemmas.Bool.{eq-eqb}
 use Rattle.silt_trie.proofs.KeyBits.{bit_small}
@@ -97,21 +97,11 @@ divides d keys codable =
 -- a number of keys by which all divide is the number of those on the left
 pub count_is : (d m : ℕ) (keys : List (List ℕ)) → m ≤ length keys → ((i : ℕ) → i < m → bit_of d (get_or keys i []) ≡ 0) → ((i : ℕ) → m ≤ i → i < length keys → bit_of d (get_or keys i []) ≡ 0 → ⊥)
     → IsCodable keys d → m ≡ length (with_bit 0 d keys)
-count_is d m keys within zeros ones codable =
-    let n = length (with_bit 0 d keys) in
-    let split = divides d keys codable in
-    elim (cases_order m n) [
-      | inl same ↦ same
-      | inr (inl below) ↦ absurd (ones m (omega arith) (omega arith) (split.zeros m below))
-      | inr (inr above) ↦ let a = zeros n above in let b = split.ones n (omega arith) (omega arith) in absurd (omega arith)
-    ]
+count_is d m keys within zeros ones codable = search (arith, ones, divides, cases_order)
 
 -- bits that agree at d agree one bit further
 further : (d : ℕ) (a b : List ℕ) → AgreeIn d a b → bit_of d a ≡ bit_of d b → AgreeIn (d + 1) a b
-further d a b same here k h = elim (cases_eq k d) [
-  | inl e ↦ ap (λ (j : ℕ). bit_of j a) e ∙ here ∙ ap (λ (j : ℕ). bit_of j b) (sym e)
-  | inr other ↦ same k (omega arith)
-]
+further d a b same here k h = search (arith, cases_eq)
 
 -- a key that follows with the same bit follows one bit deeper
 step : (d : ℕ) (a b : List ℕ) → Follows d a b → bit_of d a ≡ bit_of d b → Follows (d + 1) a b
@@ -172,5 +162,4 @@ bounds_down d low high middle keys codable bounds from below high_bit =
 
 -- once the bounds meet, that many keys are on the left
 pub bounds_end : (d low high : ℕ) (keys : List (List ℕ)) → IsCodable keys d → Bounds d keys low high → high ≤ low → low ≡ length (with_bit 0 d keys)
-bounds_end d low high keys codable bounds done =
-    count_is d low keys (omega arith) bounds.zeros (λ i h l. bounds.ones i (omega arith) l) codable
+bounds_end d low high keys codable bounds done = count_is d low keys (omega arith) bounds.zeros (λ i h l. bounds.ones i (omega arith) l) codable

@@ -29,10 +29,7 @@ skips_split m keys d = refl
 -- how many skips there are
 length-skips_of : (m : ℕ) (keys : List (List ℕ)) (d : ℕ) → length (skips_of m keys d) + 1 ≡ 2 ^ m
 length-skips_of zero keys d = rw skips_none
-length-skips_of (suc m) keys d =
-    let one = length-skips_of m (with_bit 0 d keys) (d + 1) in
-    let two = length-skips_of m (with_bit 1 d keys) (d + 1) in
-    simp (skips_split, length-append) (omega (arith, pow-succ' 2 m))
+length-skips_of (suc m) keys d = search (arith, length-skips_of m (with_bit 0 d keys) (d + 1), length-skips_of m (with_bit 1 d keys) (d + 1), skips_split, length-append)
 
 -- one fewer than twice as many is one and twice one fewer
 halved : (m n : ℕ) → n + 1 ≡ 2 ^ suc m → n ≡ suc ((2 ^ m - 1) + (2 ^ m - 1))
@@ -45,12 +42,7 @@ parted_zeros n = rw (replicate-append-replicate {A = ℕ} n n 0)
 -- both halves of zeros behind a first one
 halves_of_zeros : (n first half : ℕ) (parts lefts rights : List ℕ) → first ∷ parts ≡ replicate (suc (n + n)) 0 → half ≡ length parts / 2 → lefts ≡ take half parts → rights ≡ drop half parts
     → (lefts ≡ replicate n 0) × (rights ≡ replicate n 0)
-halves_of_zeros n first half parts lefts rights whole half_is left right =
-    let rest : parts ≡ replicate (n + n) 0 = cc in
-    let size = ap length rest ∙ length-replicate {A = ℕ} (n + n) 0 in
-    let half_size : half ≡ n = omega arith in
-    let others : n + n - n ≡ n = omega arith in
-    (cc (take-replicate {X = ℕ} n (n + n) 0 (omega arith)), cc (drop-replicate {X = ℕ} n (n + n) 0))
+halves_of_zeros n first half parts lefts rights whole half_is left right = search (arith, length-replicate, take-replicate, drop-replicate)
 
 -- fewer than two keys have no code to skip
 few_skips : (m n : ℕ) (keys : List (List ℕ)) (d : ℕ) → length keys < 2 → n + 1 ≡ 2 ^ m → replicate n 0 ≡ skips_of m keys d
@@ -71,35 +63,19 @@ zeros_few m keys d skips few zeros = let some = pow_pos m in zeros ∙ few_skips
 -- no zeros are the skips of keys that are not divided
 pub zeros_end : (m : ℕ) (keys : List (List ℕ)) (d : ℕ) (skips : List ℕ) → length skips ≡ 0 → skips ≡ replicate (2 ^ m - 1) 0 → skips ≡ skips_of m keys d
 zeros_end zero keys d skips none zeros = cc (skips_none keys d)
-zeros_end (suc m) keys d skips none zeros =
-    let size = ap length zeros ∙ length-replicate (2 ^ suc m - 1) 0 in
-    absurd (omega (arith, pow_pos m, pow-succ' 2 m))
+zeros_end (suc m) keys d skips none zeros = search (arith, length-replicate, pow_pos)
 
 -- no skips are divided into none
 pub divided_none : (m : ℕ) (keys : List (List ℕ)) (d : ℕ) (skips : List ℕ) → length skips ≡ 0 → skips ≡ skips_of m keys d → AreSkipsInto m keys d None skips skips
-divided_none zero keys d skips none is = record {
-  over = tt;
-  left = cc (skips_none keys d, skips_none (with_bit 0 d keys) (d + 1));
-  right = cc (skips_none keys d, skips_none (with_bit 1 d keys) (d + 1));
-}
-divided_none (suc m) keys d skips none is =
-    let size = ap length is in
-    absurd (omega (arith, pow_pos m, length-skips_of (suc m) keys d, pow-succ' 2 m))
+divided_none zero keys d skips none is = search (arith, skips_none)
+divided_none (suc m) keys d skips none is = search (arith, pow_pos, length-skips_of)
 
 -- the first skip is the one over the left side, and both halves of the others are those into the two sides
 pub divided_some : (m : ℕ) (keys : List (List ℕ)) (d skip half : ℕ) (skips parts lefts rights : List ℕ) → skips ≡ skip ∷ parts
     → half ≡ length parts / 2 → lefts ≡ take half parts → rights ≡ drop half parts → skips ≡ skips_of m keys d
     → AreSkipsInto m keys d (Some skip) lefts rights
 divided_some zero keys d skip half skips parts lefts rights all half_is left right is = absurd (cc (skips_none keys d))
-divided_some (suc m) keys d skip half skips parts lefts rights all half_is left right is =
-    let one = skips_of m (with_bit 0 d keys) (d + 1) in
-    let two = skips_of m (with_bit 1 d keys) (d + 1) in
-    let split = skips_split m keys d in
-    let both : parts ≡ one ++ two = cc in
-    let size = ap length both ∙ length-append one two in
-    let half_size : length one ≡ half = omega (arith, length-skips_of m (with_bit 0 d keys) (d + 1), length-skips_of m (with_bit 1 d keys) (d + 1)) in
-    let less : m ≡ suc m - 1 = omega arith in
-    record { over = cc; left = cc (take_at one two half half_size); right = cc (drop_at one two half half_size) }
+divided_some (suc m) keys d skip half skips parts lefts rights all half_is left right is = search (arith, skips_split, length-append, length-skips_of, take_at, drop_at)
 
 -- zeros that are overwritten by the skip over the left side, and then by both sides' skips
 pub skips_written : (m d left half first skip : ℕ) (keys lefts rights : List Key) (zeros parts zeros_left zeros_right new_left new_right new before after : List ℕ)
@@ -119,7 +95,4 @@ skips_written (suc m) d left half first skip keys lefts rights zeros parts zeros
     let whole : first ∷ parts ≡ replicate (suc (n + n)) 0 = cc (halved m (2 ^ suc m - 1) (omega arith)) in
     let halves = halves_of_zeros n first half parts zeros_left zeros_right whole half_is one two in
     let l = bytes_lefts d left keys lefts codable count front in
-    let r = bytes_rights d left keys rights codable count back in
-    let long = ap length code ∙ length-append before (trie_code (bytes_of lefts) (d + 1)) in
-    let over : skip ≡ skip_over (bytes_of lefts) (d + 1) = omega arith in
-    cc (on_left m halves.0, on_right m halves.1, skips_split m (bytes_of keys) d)
+    search (arith, bytes_rights, length-append, skips_split)
