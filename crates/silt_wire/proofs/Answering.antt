@@ -1,5 +1,5 @@
 -- Answering lines in two parts is answering them at once, and a beginning of a part is a beginning of the whole.
-use Rattle.silt_wire.proofs.Common.{map, ◌≡◌, ◌-◌, arith, ◌+◌, ◌≤◌, take, drop, take-append-drop, flat_map, inl, inr, ℕ, true, false, cond, Result, Ok, Err, List, [], ◌∷◌, ◌++◌, length, refl, sym}
+use Rattle.silt_wire.proofs.Common.{map, ◌≡◌, ◌-◌, arith, ◌+◌, ◌≤◌, take, drop, take-append-drop, flat_map, inl, inr, ℕ, false, cond, Result, Ok, Err, List, [], ◌∷◌, ◌++◌, length, refl, sym}
 use Rattle.silt_wire.proofs.Common.{ap, ◌∙◌, append_assoc, Option, Some, None, is_some, subst, append-nil, take_all, Appends, Consumes, Keeps, Event, Answer, AnswersQuery, Query, does, Tail}
 use Rattle.silt_wire.proofs.Common.{LineFault, SessionEnd, End, ReadFault, NoMemory, tail_after, tail_asked, HoldsBytes, LineBuffer, Parses, IsBeginning, asks, line_of, AnswersAll}
 use Rattle.silt_wire.proofs.Common.{AnswersSome, Ends, AnswersEach, PlainReply, lines_after, rest_after}
@@ -10,7 +10,7 @@ use Rattle.std.proofs.Math.Seq.{take-add}
 use Rattle.silt_event.specs.declared.admin.Admin.{Admin}
 use Rattle.silt_event.specs.declared.admin.AdminReply.{AdminReply}
 use Rattle.silt_event.specs.Queries.{admin, replies, says}
-use Rattle.silt_wire.specs.Batches.{event_query, valid}
+use Rattle.silt_wire.specs.Batches.{valid}
 use Rattle.silt_wire.specs.Lines.{admin_of, asked_by, is_blank, query_by, query_with, with_event}
 use Rattle.silt_wire.specs.Replies.{fault_line}
 use Rattle.silt_wire.specs.Sessions.{answer_lines, queries_of, texts_of, IsCut, SessionState}
@@ -21,17 +21,17 @@ use Rattle.silt_wire.proofs.Streams.{rest_after-append, lines_after-append, Appe
 pub IsBeginning-all : {X : Type 0} (xs : List X) → IsBeginning xs xs
 IsBeginning-all xs = ([], append-nil xs)
 
-IsBeginning-none : {X : Type 0} (xs : List X) → IsBeginning [] xs
+pub IsBeginning-none : {X : Type 0} (xs : List X) → IsBeginning [] xs
 IsBeginning-none xs = (xs, refl)
 
-IsBeginning-trans : {X : Type 0} (xs ys zs : List X) → IsBeginning xs ys → IsBeginning ys zs → IsBeginning xs zs
+pub IsBeginning-trans : {X : Type 0} (xs ys zs : List X) → IsBeginning xs ys → IsBeginning ys zs → IsBeginning xs zs
 IsBeginning-trans xs ys zs h k = (h.0 ++ k.0, sym (append_assoc xs h.0 k.0) ∙ ap (λ l. l ++ k.0) h.1 ∙ k.1)
 
 -- a beginning of what follows a front
-IsBeginning-behind : {X : Type 0} (front xs ys : List X) → IsBeginning xs ys → IsBeginning (front ++ xs) (front ++ ys)
+pub IsBeginning-behind : {X : Type 0} (front xs ys : List X) → IsBeginning xs ys → IsBeginning (front ++ xs) (front ++ ys)
 IsBeginning-behind front xs ys h = (h.0, append_assoc front xs h.0 ∙ ap (λ l. front ++ l) h.1)
 
-IsBeginning-more : {X : Type 0} (xs ys more : List X) → IsBeginning xs ys → IsBeginning xs (ys ++ more)
+pub IsBeginning-more : {X : Type 0} (xs ys more : List X) → IsBeginning xs ys → IsBeginning xs (ys ++ more)
 IsBeginning-more xs ys more h = (h.0 ++ more, sym (append_assoc xs h.0 more) ∙ ap (λ l. l ++ more) h.1)
 
 Consumes-none : (r : Option (List ℕ)) → Consumes r r []
@@ -42,11 +42,7 @@ Consumes-none (Some xs) = refl
 
 asks-append : (v : ℕ) (xs ys : List (List ℕ)) → asks v (xs ++ ys) ≡ asks v xs ++ asks v ys
 asks-append v [] ys = refl
-asks-append v (x ∷ xs) ys =
-    elim (is_blank x) as (λ b. cond b (asks v (xs ++ ys)) (query_by v x ∷ asks v (xs ++ ys)) ≡ cond b (asks v xs) (query_by v x ∷ asks v xs) ++ asks v ys) [
-      | true ↦ asks-append v xs ys
-      | false ↦ ap (λ l. query_by v x ∷ l) (asks-append v xs ys)
-    ]
+asks-append v (x ∷ xs) ys = search (arith, asks-append v xs ys)
 
 queries_of-append : (xs ys : List (Result Query LineFault)) → queries_of (xs ++ ys) ≡ queries_of xs ++ queries_of ys
 queries_of-append [] ys = refl
@@ -73,8 +69,7 @@ asks-live v line asked e is = ap (λ b. cond b [] (query_by v line ∷ [])) e �
 -- the batch gained the event that was asked for
 pub gathers-event : (old new : List Event) (event : Event) (asked : List (Result Query LineFault)) → asked ≡ Ok (does event) ∷ [] → new ≡ old ++ event ∷ []
     → valid old ++ asked ≡ valid new ++ []
-gathers-event old new event asked is e =
-    ap (λ l. valid old ++ l) is ∙ sym (map-append event_query old (event ∷ [])) ∙ ap valid (sym e) ∙ sym (append-nil (valid new))
+gathers-event old new event asked is e = search (arith, map-append, append-nil)
 
 pub tail_after-none : (tail : Option Tail) (events : List (Result Query LineFault)) → is_some tail ≡ false → events ++ tail_after tail ≡ events
 tail_after-none None events e = append-nil events
@@ -115,9 +110,9 @@ texts_of-more (Ok event ∷ xs) ys [] = IsBeginning-none []
 texts_of-more (Ok event ∷ xs) ys (r ∷ rs) = IsBeginning-behind (answer_lines r) _ _ (texts_of-more xs ys rs)
 
 module _ {A : Type 0} (answers : A → A → Query → Answer → Type 0) where
-  AnswersEach-append : (a b c : A) (es fs : List Query) (rs ss : List Answer) → AnswersEach answers a es rs b → AnswersEach answers b fs ss c
+  pub AnswersEach-append : (a b c : A) (es fs : List Query) (rs ss : List Answer) → AnswersEach answers a es rs b → AnswersEach answers b fs ss c
       → AnswersEach answers a (es ++ fs) (rs ++ ss) c
-  AnswersEach-append a b c [] fs [] ss h k = subst (λ s. AnswersEach answers s fs ss c) h k
+  AnswersEach-append a b c [] fs [] ss h k = rw h at k
   AnswersEach-append a b c [] fs (r ∷ rs) ss h k = absurd h
   AnswersEach-append a b c (e ∷ es) fs [] ss h k = absurd h
   AnswersEach-append a b c (e ∷ es) fs (r ∷ rs) ss h k = (h.0, h.1, AnswersEach-append h.0 b c es fs rs ss h.2 k)
@@ -127,12 +122,9 @@ module _ {A : Type 0} (answers : A → A → Query → Answer → Type 0) where
       → texts_of (xs ++ ys) (rs ++ ss) ≡ texts_of xs rs ++ texts_of ys ss
   texts_of-append a b [] ys [] ss h = refl
   texts_of-append a b [] ys (r ∷ rs) ss h = absurd h
-  texts_of-append a b (Err fault ∷ xs) ys rs ss h =
-      let text = fault_line fault in
-      ap (λ l. text ++ l) (texts_of-append a b xs ys rs ss h) ∙ sym (append_assoc text (texts_of xs rs) (texts_of ys ss))
+  texts_of-append a b (Err fault ∷ xs) ys rs ss h = search (arith, texts_of-append a b xs ys rs ss h, append_assoc)
   texts_of-append a b (Ok event ∷ xs) ys [] ss h = absurd h
-  texts_of-append a b (Ok event ∷ xs) ys (r ∷ rs) ss h =
-      ap (λ l. answer_lines r ++ l) (texts_of-append h.0 b xs ys rs ss h.2) ∙ sym (append_assoc (answer_lines r) (texts_of xs rs) (texts_of ys ss))
+  texts_of-append a b (Ok event ∷ xs) ys (r ∷ rs) ss h = search (arith, texts_of-append h.0 b xs ys rs ss h.2, append_assoc)
 
   -- ---- one part after the other
 
@@ -141,8 +133,7 @@ module _ {A : Type 0} (answers : A → A → Query → Answer → Type 0) where
   some-none asked a w = ([], [], [], IsBeginning-none (queries_of asked), refl, IsBeginning-none (texts_of asked []), Appends-none w)
 
   pub some-from_all : (asked : List (Result Query LineFault)) (a b : A) (w v : Option (List ℕ)) → AnswersAll answers asked a b w v → AnswersSome answers asked a b w v
-  some-from_all asked a b w v h =
-      (queries_of asked, h.0, texts_of asked h.0, IsBeginning-all (queries_of asked), h.1, IsBeginning-all (texts_of asked h.0), h.2)
+  some-from_all asked a b w v h = search (arith, IsBeginning-all)
 
   all-append : (a b c : A) (xs ys : List (Result Query LineFault)) (w v u : Option (List ℕ)) → AnswersAll answers xs a b w v → AnswersAll answers ys b c v u
       → AnswersAll answers (xs ++ ys) a c w u
@@ -210,8 +201,7 @@ module _ {A : Type 0} (answers : A → A → Query → Answer → Type 0) where
   pub some-taken : (n : ℕ) (p bytes : List ℕ) (count : ℕ) (a b : A) (w v : Option (List ℕ)) → AnswersAll answers (asks n (lines_after p (take count bytes))) a b w v
       → AnswersSome answers (asks n (lines_after p bytes)) a b w v
   some-taken n p bytes count a b w v h =
-      subst (λ xs. AnswersSome answers (asks n (lines_after p xs)) a b w v) (take-append-drop count bytes)
-      (some-front n p (take count bytes) (drop count bytes) a b w v (some-from_all (asks n (lines_after p (take count bytes))) a b w v h))
+      subst (λ xs. AnswersSome answers (asks n (lines_after p xs)) a b w v) (take-append-drop count bytes) (search (arith, some-front, some-from_all))
 
   -- ---- a batch and what comes after it
 
@@ -224,9 +214,7 @@ module _ {A : Type 0} (answers : A → A → Query → Answer → Type 0) where
   pub all-tail : (asked events : List (Result Query LineFault)) (tail : Tail) (a b : A) (text mid more : List ℕ) → asked ≡ events ++ tail_asked tail ∷ []
       → AnswersAll answers events a b (Some text) (Some mid) → AnswersAll answers (tail_asked tail ∷ []) b b (Some mid) (Some more)
       → AnswersAll answers asked a b (Some text) (Some more)
-  all-tail asked events tail a b text mid more is h k =
-      subst (λ q. AnswersAll answers q a b (Some text) (Some more)) (sym is)
-      (all-append a b b events (tail_asked tail ∷ []) (Some text) (Some mid) (Some more) h k)
+  all-tail asked events tail a b text mid more is h k = rw (← is) at (all-append a b b events (tail_asked tail ∷ []) (Some text) (Some mid) (Some more) h k)
 
   -- ---- what was gathered is written
 
@@ -267,11 +255,7 @@ module _ {A : Type 0} (answers : A → A → Event → PlainReply → Type 0) (a
 
   pub all-events : (a b : A) (es : List Event) (rs : List PlainReply) (text more : List ℕ) → AnswersEach answers a es rs b
       → more ≡ text ++ flat_map line_of rs → AnswersAll (AnswersQuery answers administers) (valid es) a b (Some text) (Some more)
-  all-events a b es rs text more h e = (
-    map replies rs,
-    subst (λ l. AnswersEach (AnswersQuery answers administers) a l (map replies rs) b) (sym (queries_of-valid es)) (each-queries a b es rs h),
-    e ∙ ap (λ l. text ++ l) (sym (texts_of-valid a b es rs h)),
-  )
+  all-events a b es rs text more h e = search (arith, queries_of-valid, each-queries, texts_of-valid)
 
   -- the texts of the first replies are there
   pub some-events : (a b : A) (es : List Event) (rs : List PlainReply) (text more : List ℕ) → AnswersEach answers a es rs b
@@ -326,9 +310,7 @@ Appends-piece bytes done count w v u h k =
     subst (λ t. Appends w u t) (sym (take-add done count bytes)) (Appends-append w v u _ _ h (subst (λ t. Appends v u (take count t)) (rest-is bytes done) k))
 
 pub within-piece : (bytes : List ℕ) (done count : ℕ) → done ≤ length bytes → count ≤ length (take (length bytes - done) (drop done bytes)) → done + count ≤ length bytes
-within-piece bytes done count h k =
-    let rest : count ≤ length bytes - done = subst (λ n. count ≤ n) (length-drop done bytes) (subst (λ t. count ≤ length t) (rest-is bytes done) k) in
-    omega arith
+within-piece bytes done count h k = search (arith, length-drop, rest-is)
 
 pub wrote-piece : (bytes : List ℕ) (done count : ℕ) (w v u : Option (List ℕ)) → Appends w v (take done bytes) → Appends v u (take count (take (length bytes - done) (drop done bytes)))
     → (out : List ℕ) × IsBeginning out bytes × Appends w u out
@@ -345,6 +327,4 @@ rest_after-part p bytes done count = ap (λ xs. rest_after p xs) (take-add done 
 -- what is pending after one part more, if these bytes are the rest
 pub holds-part : (pending : LineBuffer) (p bytes rest : List ℕ) (done count : ℕ) → rest ≡ drop done bytes
     → HoldsBytes pending (rest_after (rest_after p (take done bytes)) (take count rest)) → HoldsBytes pending (rest_after p (take (done + count) bytes))
-holds-part pending p bytes rest done count is h =
-    let H = λ (r : List ℕ). HoldsBytes pending (rest_after (rest_after p (take done bytes)) (take count r)) in
-    subst (λ (q : List ℕ). HoldsBytes pending q) (sym (rest_after-part p bytes done count)) (subst H is h)
+holds-part pending p bytes rest done count is h = search (arith, rest_after-part)

@@ -1,27 +1,19 @@
 -- The words of a line, and what they ask for.
-use Rattle.silt_wire.proofs.Common.{◌≡◌, ◌<◌, ◌≤◌, ◌==◌, ◌+◌, ℕ, List, [], ◌∷◌, length, take, drop, Option, Some, None, is_some, false, Result, Err, refl, sym, ap, subst, ◌∙◌, inl, arith, position}
-use Rattle.silt_wire.proofs.Common.{position_or_len, common_steps, fails_before_first, Event, LineFault, Parses}
+use Rattle.silt_wire.proofs.Common.{◌≡◌, ◌==◌, ◌+◌, ℕ, List, [], ◌∷◌, length, take, drop, Option, Some, None, is_some, false, Result, Err, refl, sym, ap, ◌∙◌, inl, arith, position}
+use Rattle.silt_wire.proofs.Common.{fails_before_first, Event, LineFault, Parses}
 use Rattle.std.proofs.Common.{◌≢◌}
 use Rattle.std.specs.Prelude.{IfNone}
-use Rattle.std.specs.List.{slice_split}
 use Rattle.std.proofs.lemmas.List.Splits.{slice_split_first, slice_split_none, length-slice_split}
 use Rattle.silt_wire.specs.declared.line.LineFault.TheVariants.{BadLine}
 use Rattle.silt_wire.specs.Lines.{words_of, bare_event, key_event, value_event, swap_event, event_of}
 
 -- the first word ends at the first space, and the other words come after it
 pub words_of-cut : (text : List ℕ) (at : ℕ) → position (λ b. b == 32) text ≡ Some at → words_of text ≡ take at text ∷ words_of (drop (at + 1) text)
-words_of-cut text at e =
-    let p = λ (b : ℕ). b == 32 in
-    let is_at : position_or_len p text ≡ at = grind (arith, common_steps) in
-    let inside : at < length text = grind (arith, common_steps) in
-    subst (λ n. slice_split p text ≡ take n text ∷ slice_split p (drop (n + 1) text)) is_at (slice_split_first p text 0 (omega arith))
+words_of-cut text at e = search (arith, slice_split_first)
 
 -- with no space there is one word
 pub words_of-whole : (text : List ℕ) → position (λ b. b == 32) text ≡ None → words_of text ≡ text ∷ []
-words_of-whole text e =
-    let p = λ (b : ℕ). b == 32 in
-    let ends : length text ≤ position_or_len p text = grind (arith, common_steps) in
-    slice_split_none p text (λ k d lt. fails_before_first p text k d (omega arith))
+words_of-whole text e = search (arith, slice_split_none, fails_before_first)
 
 -- what one word asks for
 pub asked-one : (len : ℕ) (text : List ℕ) (result : Result Event LineFault) → words_of text ≡ text ∷ [] → result ≡ bare_event text → Parses (event_of len (words_of text)) result
@@ -38,18 +30,14 @@ asked-two len text word rest result words last e = inl (e ∙ sym (ap (event_of 
 pub asked-three : (len : ℕ) (text word key rest value : List ℕ) (result : Result Event LineFault) → words_of text ≡ word ∷ words_of rest → words_of rest ≡ key ∷ words_of value
     → words_of value ≡ value ∷ [] → Parses (value_event len word key value) result → Parses (event_of len (words_of text)) result
 unfolding event_of
-asked-three len text word key rest value result words more last e =
-    subst (λ asked. Parses asked result) (sym (ap (event_of len) (words ∙ ap (λ parts. word ∷ parts) (more ∙ ap (λ parts. key ∷ parts) last)))) e
+asked-three len text word key rest value result words more last e = search arith
 
 -- what four words ask for
 pub asked-four : (len : ℕ) (text word key rest old most new : List ℕ) (result : Result Event LineFault) → words_of text ≡ word ∷ words_of rest
     → words_of rest ≡ key ∷ words_of most → words_of most ≡ old ∷ words_of new → words_of new ≡ new ∷ [] → Parses (swap_event len word key old new) result
     → Parses (event_of len (words_of text)) result
 unfolding event_of
-asked-four len text word key rest old most new result words more last end e =
-    let parts : words_of text ≡ word ∷ key ∷ old ∷ new ∷ [] =
-    words ∙ ap (λ ws. word ∷ ws) (more ∙ ap (λ ws. key ∷ ws) (last ∙ ap (λ ws. old ∷ ws) end)) in
-    subst (λ asked. Parses asked result) (sym (ap (event_of len) parts)) e
+asked-four len text word key rest old most new result words more last end e = search arith
 
 -- a line of five words or more is refused
 event_of-many : (len : ℕ) (word key old new : List ℕ) (more : List (List ℕ)) → more ≢ [] → event_of len (word ∷ key ∷ old ∷ new ∷ more) ≡ Err BadLine
@@ -66,10 +54,7 @@ words_of-some text e =
 pub asked-many : (len : ℕ) (text word key rest old most new last next : List ℕ) (result : Result Event LineFault) → words_of text ≡ word ∷ words_of rest
     → words_of rest ≡ key ∷ words_of most → words_of most ≡ old ∷ words_of last → words_of last ≡ new ∷ words_of next → result ≡ Err BadLine
     → Parses (event_of len (words_of text)) result
-asked-many len text word key rest old most new last next result words more end four e =
-    let parts : words_of text ≡ word ∷ key ∷ old ∷ new ∷ words_of next =
-    words ∙ ap (λ ws. word ∷ ws) (more ∙ ap (λ ws. key ∷ ws) (end ∙ ap (λ ws. old ∷ ws) four)) in
-    inl (e ∙ sym (ap (event_of len) parts ∙ event_of-many len word key old new (words_of next) (words_of-some next)))
+asked-many len text word key rest old most new last next result words more end four e = search (arith, event_of-many, words_of-some)
 
 -- no more space was found
 pub last-from_none : {A : Type 0} {P : Type 0} (found : Option A) → is_some found ≡ false → IfNone found P → P

@@ -1,8 +1,8 @@
 -- What a guard passes on, and that a session does nothing for an HTTP request.
-use Rattle.std.proofs.lemmas.Bool.{cases_Bool}
-use Rattle.silt_wire.proofs.Common.{◌≡◌, ◌==◌, ◌&&◌, ◌+◌, ◌<◌, ◌≤◌, inl, inr, ℕ, suc, zero, true, false, cond, List, [], ◌∷◌, ◌++◌, length, take, drop, get_or, Option, Some, None, refl, sym, ap}
-use Rattle.silt_wire.proofs.Common.{subst, ◌∙◌, append_assoc, arith, take-append-drop, common_steps, append-nil, length-take-le, take_all, take_more, Appends, Consumes, AnswersEach, Answer, Query}
-use Rattle.silt_wire.proofs.Common.{is_turned_away, AnswersAll, AnswersSome, Ends, IsBeginning, ServesAll, ServesSome, asks, lines_after, SessionEnd, End, ReadFault}
+use Rattle.std.proofs.lemmas.Bool.{eqb-true, cases_Bool}
+use Rattle.silt_wire.proofs.Common.{◌≡◌, ◌==◌, ◌&&◌, ◌+◌, ◌<◌, ◌≤◌, inl, inr, ℕ, true, false, cond, List, [], ◌∷◌, ◌++◌, length, take, drop, get_or, Option, Some, None, refl, sym, ap, subst}
+use Rattle.silt_wire.proofs.Common.{◌∙◌, append_assoc, arith, take-append-drop, common_steps, append-nil, length-take-le, take_all, take_more, Appends, Consumes, AnswersEach, Answer, Query}
+use Rattle.silt_wire.proofs.Common.{is_turned_away, AnswersAll, AnswersSome, Ends, IsBeginning, ServesAll, ServesSome, lines_after, SessionEnd, End, ReadFault}
 use Rattle.std.proofs.Common.{◌⊎◌, Bool, option_map}
 use Rattle.std.specs.Prelude.{IfSome, nat_lt}
 use Rattle.std.proofs.lemmas.List.{drop_more, take-take}
@@ -39,9 +39,7 @@ HandsOn line bytes after at = (rest : List ℕ) → handed_on line (bytes ++ res
 pub hands_last : (first line : FirstLine) (bytes : List ℕ) (at : ℕ) → at < length bytes → is_turned_away (line_after line (get_or bytes at 0)) ≡ true
     → HandsOn first bytes line at
     → (rest : List ℕ) → handed_on first (bytes ++ rest) ≡ take at bytes ++ handed_on (line_after line (get_or bytes at 0)) rest
-hands_last first line bytes at inside ends so = λ rest.
-    let b = get_or bytes at 0 in
-    cc (so rest, drop_more bytes at 0 inside, refused_none rest, refused_is (line_after line b) ends)
+hands_last first line bytes at inside ends so = search (arith, drop_more, refused_none, refused_is)
 
 -- the first line had passed
 pub hands_passed : (line : FirstLine) (bytes : List ℕ) → is_passed line ≡ true
@@ -54,10 +52,7 @@ hands_passed line bytes is = λ rest. cc (passed_is line is, passed_all (bytes +
 pub hands_read : (line after : FirstLine) (old new : Option (List ℕ)) (buf : List ℕ) (count given : ℕ) → given ≤ count → Consumes old new (take count buf)
     → ((rest : List ℕ) → handed_on line (take count buf ++ rest) ≡ take given (take count buf) ++ handed_on after rest)
     → Consumes (option_map (handed_on line) old) (option_map (handed_on after) new) (take given buf)
-hands_read line after None new buf count given le took so = tt
-hands_read line after (Some xs) None buf count given le took so = absurd took
-hands_read line after (Some xs) (Some ys) buf count given le took so =
-    ap (handed_on line) took ∙ so ys ∙ ap (λ l. l ++ handed_on after ys) (take-take given count buf le)
+hands_read line after old new buf count given le took so = search (arith, take-take)
 
 pub refused_end : (line : FirstLine) (known : Option (List ℕ)) → is_turned_away line ≡ true → IsAtEnd (option_map (handed_on line) known)
 refused_end line None is = tt
@@ -77,8 +72,7 @@ refused_reads line (Some xs) is = refl
 pub given_end : (line : FirstLine) (new : Option (List ℕ)) (buf : List ℕ) (count given : ℕ) → count ≤ length buf
     → (count ≡ 0 → 0 < length buf → IsAtEnd new) → (given ≡ 0 → 0 < length (take count buf) → is_turned_away line ≡ true)
     → given ≡ 0 → 0 < length buf → IsAtEnd (option_map (handed_on line) new)
-given_end line new buf zero given le inner mark none room = ended_end line new (inner refl room)
-given_end line new buf (suc n) given le inner mark none room = refused_end line new (mark none (rw (length-take-le (suc n) buf le) (omega arith)))
+given_end line new buf count given le inner mark none room = search (arith, ended_end, refused_end, length-take-le)
 
 -- ---- a line that has the mark
 
@@ -104,9 +98,6 @@ data Step (n b : ℕ) (line : FirstLine) : Type 0 where
   refuses : take n http_mark ++ b ∷ [] ≡ http_mark → line ≡ Refused → Step n b line
   goes_on : (m : ℕ) (front : List ℕ) → take n http_mark ++ b ∷ [] ≡ front ++ take m http_mark → ends_line front ≡ false → line ≡ Open m → Step n b line
 
-is_equal : (x y : ℕ) → (x == y) ≡ true → x ≡ y
-is_equal x y e = grind (arith, common_steps)
-
 is_marked : (n b : ℕ) → (nat_lt n 6 && (b == get_or http_mark n 0)) ≡ true → (n < 6) × (b ≡ get_or http_mark n 0)
 is_marked n b e = grind (arith, common_steps)
 
@@ -115,7 +106,7 @@ mark_more : (n b : ℕ) → n < 6 → b ≡ get_or http_mark n 0 → take n http
 mark_more n b inside is = ap (λ x. take n http_mark ++ x ∷ []) is ∙ sym (take_more http_mark n 0 inside)
 
 step_marked : (n b : ℕ) (v : Bool) → n < 6 → b ≡ get_or http_mark n 0 → (n == 5) ≡ v → Step n b (cond v Refused (Open (n + 1)))
-step_marked n b true inside is e = refuses (mark_more n b inside is ∙ ap (λ m. take (m + 1) http_mark) (is_equal n 5 e)) refl
+step_marked n b true inside is e = refuses (mark_more n b inside is ∙ ap (λ m. take (m + 1) http_mark) (eqb-true n 5 e)) refl
 step_marked n b false inside is e = goes_on (n + 1) [] (mark_more n b inside is) refl refl
 
 step_other : (n b : ℕ) (v : Bool) → (b == 10) ≡ false → (nat_lt n 6 && (b == get_or http_mark n 0)) ≡ v
@@ -123,17 +114,16 @@ step_other : (n b : ℕ) (v : Bool) → (b == 10) ≡ false → (nat_lt n 6 && (
 step_other n b true feed e = let is = is_marked n b e in step_marked n b (n == 5) is.0 is.1 refl
 step_other n b false feed e =
     let front = take n http_mark in
-    goes_on 0 (front ++ b ∷ []) (sym (append-nil (front ++ b ∷ [])))
-    (ends_line-append front (b ∷ []) (ends_line-take n http_mark refl) (ap (λ v. cond v true false) feed)) refl
+    goes_on 0 (front ++ b ∷ []) (sym (append-nil (front ++ b ∷ []))) (search (arith, ends_line-append, ends_line-take)) refl
 
 step_behind : (n b : ℕ) (v : Bool) → (b == 10) ≡ false → (b == 32) ≡ v
     → Step n b (cond v (Open 1) (cond (nat_lt n 6 && (b == get_or http_mark n 0)) (cond (n == 5) Refused (Open (n + 1))) (Open 0)))
-step_behind n b true feed e = goes_on 1 (take n http_mark) (ap (λ x. take n http_mark ++ x ∷ []) (is_equal b 32 e)) (ends_line-take n http_mark refl) refl
+step_behind n b true feed e = goes_on 1 (take n http_mark) (ap (λ x. take n http_mark ++ x ∷ []) (eqb-true b 32 e)) (ends_line-take n http_mark refl) refl
 step_behind n b false feed e = step_other n b (nat_lt n 6 && (b == get_or http_mark n 0)) feed refl
 
 step_by : (n b : ℕ) (v : Bool) → (b == 10) ≡ v
     → Step n b (cond v Passed (cond (b == 32) (Open 1) (cond (nat_lt n 6 && (b == get_or http_mark n 0)) (cond (n == 5) Refused (Open (n + 1))) (Open 0))))
-step_by n b true e = passes (is_equal b 10 e) refl
+step_by n b true e = passes (eqb-true b 10 e) refl
 step_by n b false e = step_behind n b (b == 32) e refl
 
 step : (n b : ℕ) → Step n b (open_after n b)
@@ -183,20 +173,13 @@ given_or_http n (x ∷ bytes) =
 
 -- before anything was read
 pub guards_new : (known : Option (List ℕ)) → Guards known (option_map (handed_on (Open 0)) known)
-guards_new None = tt
-guards_new (Some bytes) = (
-  λ http. subst (λ l. ends_line (handed_on (Open 0) l) ≡ false) (sym http.3) (http_given 0 http.0 http.1 http.2),
-  λ other. elim (given_or_http 0 bytes) as (λ _. handed_on (Open 0) bytes ≡ bytes) [
-    | inl all ↦ all
-    | inr has ↦ absurd (other has)
-  ],
-)
+guards_new known = search (arith, http_given, given_or_http)
 
 -- ---- a session that is given no whole line
 
 lines_none : (begun bytes : List ℕ) → ends_line bytes ≡ false → lines_after begun bytes ≡ []
 lines_none begun [] none = refl
-lines_none begun (x ∷ bytes) none = let is_not = not_feed x bytes none in cc (is_not.0, lines_none (begun ++ x ∷ []) bytes is_not.1)
+lines_none begun (x ∷ bytes) none = search (arith, lines_none (begun ++ x ∷ []) bytes, not_feed)
 
 begins_none : {X : Type 0} (xs : List X) → IsBeginning xs [] → xs ≡ []
 begins_none [] begins = refl
@@ -217,13 +200,11 @@ module _ {A : Type 0} (answers : A → A → Query → Answer → Type 0) where
 
   serves_none : (v : ℕ) (read : List ℕ) (a b : A) (before after : Option (List ℕ)) → ends_line read ≡ false
       → ServesAll answers v [] read a b before after → (b ≡ a) × Appends before after []
-  serves_none v read a b before after none serves =
-      all_none a b before after (subst (λ lines. AnswersAll answers (asks v lines) a b before after) (lines_none [] read none) serves)
+  serves_none v read a b before after none serves = search (arith, all_none, lines_none)
 
   serves_no_part : (v : ℕ) (read : List ℕ) (a b : A) (before after : Option (List ℕ)) → ends_line read ≡ false
       → ServesSome answers v [] read a b before after → (b ≡ a) × Appends before after []
-  serves_no_part v read a b before after none serves =
-      some_none a b before after (subst (λ lines. AnswersSome answers (asks v lines) a b before after) (lines_none [] read none) serves)
+  serves_no_part v read a b before after none serves = some_none a b before after (search (arith, lines_none))
 
   -- the bytes that were read of such a request end no line
   read_none : (given read : List ℕ) (left : Option (List ℕ)) → ends_line given ≡ false → Consumes (Some given) left read → ends_line read ≡ false
@@ -241,6 +222,4 @@ module _ {A : Type 0} (answers : A → A → Query → Answer → Type 0) where
   pub http_nothing : (end : SessionEnd) (v : ℕ) (known given left before after : Option (List ℕ)) (a b : A) → Guards known given
       → Ends answers end v (record { answerer = a; remaining = given; contents = before }) (record { answerer = b; remaining = left; contents = after })
       → IfSome known (λ bytes. IsHttp bytes → (b ≡ a) × Appends before after [])
-  http_nothing end v None given left before after a b guards ends = tt
-  http_nothing end v (Some bytes) None left before after a b guards ends = absurd guards
-  http_nothing end v (Some bytes) (Some given) left before after a b guards ends = λ http. ends_none end v given left before after a b (guards.0 http) ends
+  http_nothing end v known given left before after a b guards ends = search (arith, ends_none)

@@ -1,7 +1,8 @@
 -- Taking bytes in two parts is taking them at once.
-use Rattle.silt_wire.proofs.Common.{◌≡◌, ◌==◌, ◌+◌, ◌<◌, ◌≤◌, take, get_or, ℕ, suc, true, false, cond, List, [], ◌∷◌, ◌++◌, length, refl, sym, ap, subst, ◌∙◌, append_assoc, arith, Option, Some}
-use Rattle.silt_wire.proofs.Common.{None, position, position_or_len, common_steps, take_all, take_more, append-nil, length-take-le, fails_before_first, Appends, Consumes, Keeps, HoldsBytes}
-use Rattle.silt_wire.proofs.Common.{LineBuffer, lines_after, rest_after}
+use Rattle.std.proofs.lemmas.Bool.{eqb-true}
+use Rattle.silt_wire.proofs.Common.{◌≡◌, ◌==◌, ◌+◌, ◌<◌, take, get_or, ℕ, suc, true, false, cond, List, [], ◌∷◌, ◌++◌, length, refl, sym, ap, subst, ◌∙◌, append_assoc, arith, Option, Some}
+use Rattle.silt_wire.proofs.Common.{None, position, take_all, take_more, append-nil, length-take-le, fails_before_first, Appends, Consumes, Keeps, HoldsBytes, LineBuffer, lines_after}
+use Rattle.silt_wire.proofs.Common.{rest_after}
 use Rattle.std.specs.Prelude.{MatchBool}
 use Rattle.std.proofs.lemmas.List.{get_or-take}
 use Rattle.std.proofs.lemmas.List.Quantifiers.{position-Some}
@@ -11,51 +12,30 @@ use Rattle.silt_wire.specs.declared.line_buffer.Taken.{Taken}
 -- what is pending after two parts
 pub rest_after-append : (p xs ys : List ℕ) → rest_after p (xs ++ ys) ≡ rest_after (rest_after p xs) ys
 rest_after-append p [] ys = refl
-rest_after-append p (x ∷ xs) ys =
-    elim (x == 10) as (λ b. cond b (rest_after [] (xs ++ ys)) (rest_after (p ++ x ∷ []) (xs ++ ys)) ≡ rest_after (cond b (rest_after [] xs) (rest_after (p ++ x ∷ []) xs)) ys) [
-      | true ↦ rest_after-append [] xs ys
-      | false ↦ rest_after-append (p ++ x ∷ []) xs ys
-    ]
+rest_after-append p (x ∷ xs) ys = search (arith, rest_after-append [] xs ys, rest_after-append (p ++ x ∷ []) xs ys)
 
 -- lines are divided in two parts as at once
 pub lines_after-append : (p xs ys : List ℕ) → lines_after p (xs ++ ys) ≡ lines_after p xs ++ lines_after (rest_after p xs) ys
 lines_after-append p [] ys = refl
-lines_after-append p (x ∷ xs) ys =
-    elim (x == 10) as (λ b. cond b (p ∷ lines_after [] (xs ++ ys)) (lines_after (p ++ x ∷ []) (xs ++ ys))
-    ≡ cond b (p ∷ lines_after [] xs) (lines_after (p ++ x ∷ []) xs) ++ lines_after (cond b (rest_after [] xs) (rest_after (p ++ x ∷ []) xs)) ys) [
-      | true ↦ ap (λ ls. p ∷ ls) (lines_after-append [] xs ys)
-      | false ↦ lines_after-append (p ++ x ∷ []) xs ys
-    ]
+lines_after-append p (x ∷ xs) ys = search (arith, lines_after-append [] xs ys, lines_after-append (p ++ x ∷ []) xs ys)
 
 -- what is appended twice is appended at once
 pub Appends-append : (a b c : Option (List ℕ)) (xs ys : List ℕ) → Appends a b xs → Appends b c ys → Appends a c (xs ++ ys)
-Appends-append None b c xs ys h k = tt
-Appends-append (Some a) None c xs ys h k = absurd h
-Appends-append (Some a) (Some b) None xs ys h k = absurd k
-Appends-append (Some a) (Some b) (Some c) xs ys h k = k ∙ ap (λ z. z ++ ys) h ∙ append_assoc a xs ys
+Appends-append a b c xs ys h k = search (arith, append_assoc)
 
 -- what is kept was appended
 pub Appends-keeps : (a b c : Option (List ℕ)) (xs : List ℕ) → Appends a b xs → Keeps b c → Appends a c xs
-Appends-keeps None b c xs h k = tt
-Appends-keeps (Some a) None c xs h k = absurd h
-Appends-keeps (Some a) (Some b) None xs h k = absurd k
-Appends-keeps (Some a) (Some b) (Some c) xs h k = k ∙ h
+Appends-keeps a b c xs h k = search arith
 
 pub Appends-none : (w : Option (List ℕ)) → Appends w w []
 Appends-none None = tt
 Appends-none (Some xs) = sym (append-nil xs)
 
 pub Consumes-append : (a b c : Option (List ℕ)) (xs ys : List ℕ) → Consumes a b xs → Consumes b c ys → Consumes a c (xs ++ ys)
-Consumes-append None b c xs ys h k = tt
-Consumes-append (Some a) None c xs ys h k = absurd h
-Consumes-append (Some a) (Some b) None xs ys h k = absurd k
-Consumes-append (Some a) (Some b) (Some c) xs ys h k = h ∙ ap (λ z. xs ++ z) k ∙ sym (append_assoc xs ys c)
+Consumes-append a b c xs ys h k = search (arith, append_assoc)
 
 pub Consumes-keeps : (a b c : Option (List ℕ)) (xs : List ℕ) → Consumes a b xs → Keeps b c → Consumes a c xs
-Consumes-keeps None b c xs h k = tt
-Consumes-keeps (Some a) None c xs h k = absurd h
-Consumes-keeps (Some a) (Some b) None xs h k = absurd k
-Consumes-keeps (Some a) (Some b) (Some c) xs h k = h ∙ ap (λ z. xs ++ z) (sym k)
+Consumes-keeps a b c xs h k = search arith
 
 -- ---- up to the first line feed
 
@@ -76,37 +56,28 @@ lines_after-none p (x ∷ xs) h =
 rest_after-none : (p bytes : List ℕ) → EndNone bytes → rest_after p bytes ≡ p ++ bytes
 rest_after-none p [] h = sym (append-nil p)
 rest_after-none p (x ∷ xs) h =
-    subst (λ b. cond b (rest_after [] xs) (rest_after (p ++ x ∷ []) xs) ≡ p ++ x ∷ xs) (sym (h 0 (omega arith))) (rest_after-none (p ++ x ∷ []) xs (EndNone-rest x xs h) ∙ append_assoc p (x ∷ []) xs)
+    subst (λ b. cond b (rest_after [] xs) (rest_after (p ++ x ∷ []) xs) ≡ p ++ x ∷ xs) (sym (h 0 (omega arith))) (rest_after-none (p ++ x ∷ []) xs (EndNone-rest
+    x xs h) ∙ append_assoc p (x ∷ []) xs)
 
 -- if the search finds no line feed there is none
 EndNone-position : (bytes : List ℕ) → position (λ b. b == 10) bytes ≡ None → EndNone bytes
-EndNone-position bytes e = λ k lt.
-    let p = λ (b : ℕ). b == 10 in
-    let ends : length bytes ≤ position_or_len p bytes = grind (arith, common_steps) in
-    fails_before_first p bytes k 0 (omega arith)
+EndNone-position bytes e = search (arith, fails_before_first)
 
 -- before the first line feed there is none
 EndNone-before : (bytes : List ℕ) (at : ℕ) → position (λ b. b == 10) bytes ≡ Some at → EndNone (take at bytes)
 EndNone-before bytes at e = λ k lt.
     let found = position-Some (λ (b : ℕ). b == 10) bytes at 0 e in
-    let below : k < at = subst (λ n. k < n) (length-take-le at bytes (omega (arith, found.0))) lt in
-    subst (λ x. (x == 10) ≡ false) (sym (get_or-take at bytes k 0 below)) (found.2 k below)
-
-is-feed : (x : ℕ) → (x == 10) ≡ true → x ≡ 10
-is-feed x e = grind (arith, common_steps)
+    search (arith, length-take-le, get_or-take, found.2)
 
 -- the bytes up to the first line feed, with it
 upto-first : (bytes : List ℕ) (at : ℕ) → position (λ b. b == 10) bytes ≡ Some at → take (at + 1) bytes ≡ take at bytes ++ 10 ∷ []
 upto-first bytes at e =
     let found = position-Some (λ (b : ℕ). b == 10) bytes at 0 e in
-    take_more bytes at 0 found.0 ∙ ap (λ x. take at bytes ++ x ∷ []) (is-feed (get_or bytes at 0) found.1)
+    take_more bytes at 0 found.0 ∙ ap (λ x. take at bytes ++ x ∷ []) (eqb-true (get_or bytes at 0) 10 found.1)
 
 -- the first line feed ends the line in progress, and no other
 pub lines_after-first : (p bytes : List ℕ) (at : ℕ) → position (λ b. b == 10) bytes ≡ Some at → lines_after p (take (at + 1) bytes) ≡ (p ++ take at bytes) ∷ []
-lines_after-first p bytes at e =
-    let front = take at bytes in
-    let none = EndNone-before bytes at e in
-    cc (upto-first bytes at e, lines_after-append p front (10 ∷ []), lines_after-none p front none, rest_after-none p front none)
+lines_after-first p bytes at e = search (arith, EndNone-before, upto-first, lines_after-append, lines_after-none, rest_after-none)
 
 pub rest_after-first : (p bytes : List ℕ) (at : ℕ) → position (λ b. b == 10) bytes ≡ Some at → rest_after p (take (at + 1) bytes) ≡ []
 rest_after-first p bytes at e = ap (rest_after p) (upto-first bytes at e) ∙ rest_after-append p (take at bytes) (10 ∷ [])
@@ -123,40 +94,24 @@ rest_after-unended p bytes e = rest_after-none p bytes (EndNone-position bytes e
 -- the first line feed ended the line, and the buffer has it
 pub taken-line : (begun bytes : List ℕ) (at : ℕ) (front : List ℕ) (pending : LineBuffer) → position (λ b. b == 10) bytes ≡ Some at → front ≡ take at bytes → HoldsBytes pending (begun ++ front)
     → TakesPiece begun bytes (record { count = at + 1; ends_line = true }) pending
-taken-line begun bytes at front pending e is h = record {
-  lines = (begun ++ take at bytes, subst (λ line. HoldsBytes pending (begun ++ line)) is h, lines_after-first begun bytes at e);
-  rest = rest_after-first begun bytes at e;
-}
+taken-line begun bytes at front pending e is h = search (arith, lines_after-first, rest_after-first)
 
 -- no line ended
 pub taken-rest : (begun bytes : List ℕ) (pending : LineBuffer) → position (λ b. b == 10) bytes ≡ None → HoldsBytes pending (begun ++ bytes)
     → TakesPiece begun bytes (record { count = length bytes; ends_line = false }) pending
-taken-rest begun bytes pending e h =
-    let all : take (length bytes) bytes ≡ bytes = take_all (length bytes) bytes (omega arith) in
-    record {
-      lines = (
-        subst (λ xs. HoldsBytes pending (rest_after begun xs)) (sym all) (subst (λ xs. HoldsBytes pending xs) (sym (rest_after-unended begun bytes e)) h),
-        subst (λ xs. lines_after begun xs ≡ []) (sym all) (lines_after-unended begun bytes e),
-      );
-      rest = refl;
-    }
+taken-rest begun bytes pending e h = search (arith, take_all, rest_after-unended, lines_after-unended)
 
 -- the line that was ended, and that no other was
 pub piece-line : (begun bytes : List ℕ) (taken : Taken) (pending : LineBuffer) → taken.ends_line ≡ true → TakesPiece begun bytes taken pending
     → (line : List ℕ) × HoldsBytes pending line × (lines_after begun (take taken.count bytes) ≡ line ∷ [])
-piece-line begun bytes taken pending e h =
-    subst (λ b. MatchBool b ((line : List ℕ) × HoldsBytes pending line × (lines_after begun (take taken.count bytes) ≡ line ∷ []))
-    (HoldsBytes pending (rest_after begun (take taken.count bytes)) × (lines_after begun (take taken.count bytes) ≡ []))) e h.lines
+piece-line begun bytes taken pending e h = search arith
 
 -- no line is in progress after it
 pub piece-over : (begun bytes : List ℕ) (taken : Taken) (pending : LineBuffer) → taken.ends_line ≡ true → TakesPiece begun bytes taken pending
     → rest_after begun (take taken.count bytes) ≡ []
-piece-over begun bytes taken pending e h =
-    subst (λ b. MatchBool b (rest_after begun (take taken.count bytes) ≡ []) (taken.count ≡ length bytes)) e h.rest
+piece-over begun bytes taken pending e h = subst (λ b. MatchBool b (rest_after begun (take taken.count bytes) ≡ []) (taken.count ≡ length bytes)) e h.rest
 
 -- if no line was ended there was no line feed, and the buffer has all bytes
 pub piece-open : (begun bytes : List ℕ) (taken : Taken) (pending : LineBuffer) → taken.ends_line ≡ false → TakesPiece begun bytes taken pending
     → HoldsBytes pending (rest_after begun (take taken.count bytes)) × (lines_after begun (take taken.count bytes) ≡ [])
-piece-open begun bytes taken pending e h =
-    subst (λ b. MatchBool b ((line : List ℕ) × HoldsBytes pending line × (lines_after begun (take taken.count bytes) ≡ line ∷ []))
-    (HoldsBytes pending (rest_after begun (take taken.count bytes)) × (lines_after begun (take taken.count bytes) ≡ []))) e h.lines
+piece-open begun bytes taken pending e h = search arith
