@@ -1,5 +1,5 @@
 // Connections, each served in a thread of its own.
-ghost use Rattle.std.specs.Prelude.{◌≡◌, ◌+◌, ◌^◌, ◌<◌, ◌≤◌, false, length, take, IfOk, IfSome, IsNone};
+ghost use Rattle.std.specs.Prelude.{◌≡◌, ◌+◌, ◌<◌, ◌≤◌, false, length, take, IfOk, IfSome, IsNone};
 
 use crate::counting_listener::{CountingListener, Listens};
 use crate::limits::{Limits, Protocol};
@@ -130,7 +130,7 @@ impl<N: InboxId> Door<'_, N> {
     ) -> io::Result<Option<usize>>
         ensures slot { IfOk result (λ admitted. IfSome admitted (λ number. number < length self.now.slots.now)) }
         ensures few { IfOk result (λ admitted. IfSome admitted (λ number. number < self.now.limits.clients)) }
-        ensures more { IfOk result (λ admitted. IfSome admitted (λ _. listener.old.accepted < 2 ^ 32 → listener.new.accepted ≡ listener.old.accepted + 1)) }
+        ensures more { IfOk result (λ admitted. IfSome admitted (λ _. listener.new.accepted ≡ listener.old.accepted + 1)) }
         ensures least { listener.old.accepted ≤ listener.new.accepted }
     {
         match listener.accept() {

@@ -21,12 +21,11 @@ use silt_disk::Disk;
 use silt_event::{Event, Facts, Reply};
 use silt_inbox::{Inbox, InboxId, Taker};
 use silt_session::{
-    AskBy, Asking, Board, Job, JobLog, LogId, Newcomer, RoomGate, RoomWait, Session, SessionSlot,
-    Told, Unanswered, Workplace, WriterLink,
+    AskBy, Asking, Board, Job, JobLog, LogId, Newcomer, RoomGate, RoomWait, Session, SessionNumber,
+    SessionSlot, Told, Unanswered, Workplace, WriterLink,
 };
 use std::alloc::Global;
 use std::io;
-use std::net::TcpStream;
 use std::sync::{Mutex, Wait};
 use std::thread::Threads;
 use std::time::Clock;
@@ -174,10 +173,10 @@ impl<D: Viewed, T: Trace, N: DeskId + InboxId + LogId, G: Gate, R: Wait + Clock>
     pub fn session<'b>(
         &'b self,
         slot: &'b Mutex<SessionSlot<N>>,
-        number: u64,
+        number: &SessionNumber,
         settles_gets: bool,
     ) -> Session<'b, D, T, N, R>
-        ensures { (result.number ≡ number) × (result.settles_gets ≡ settles_gets) }
+        ensures { (result.number ≡ number.now) × (result.settles_gets ≡ settles_gets) }
     {
         Session {
             rt: self.rt,
@@ -190,7 +189,7 @@ impl<D: Viewed, T: Trace, N: DeskId + InboxId + LogId, G: Gate, R: Wait + Clock>
                 log: self.log,
                 slot,
             },
-            number,
+            number: number.get(),
             settles_gets,
         }
     }
@@ -203,8 +202,8 @@ impl<D: Viewed, T: Trace, N: DeskId + InboxId + LogId, G: Gate, R: Wait + Clock>
         }
     }
 
-    // Replies to the connection of this number, with events asked this way.
-    fn answer<A: Asking>(&self, number: u64, stream: &TcpStream, asking: A)
+    // Replies to a connection, with events asked this way.
+    fn answer<A: Asking>(&self, newcomer: &Newcomer, asking: A)
         requires { A.can_ask asking }
     {
         let connection = Connection {
@@ -213,8 +212,8 @@ impl<D: Viewed, T: Trace, N: DeskId + InboxId + LogId, G: Gate, R: Wait + Clock>
             board: self.board,
             limits: self.limits,
             value_len: self.value_len,
-            number,
-            stream,
+            number: newcomer.number.get(),
+            stream: &newcomer.stream,
         };
         connection.answer(asking);
     }
@@ -225,8 +224,8 @@ impl<D: Viewed, T: Trace, N: DeskId + InboxId + LogId, G: Gate, R: Wait + Clock>
             return;
         };
         let newcomer = slot.lock(self.rt).connection();
-        if let Some(Newcomer { stream, number }) = newcomer {
-            let session = self.session(slot, number, self.limits.protocol.settles_gets());
+        if let Some(newcomer) = newcomer {
+            let session = self.session(slot, &newcomer.number, self.limits.protocol.settles_gets());
             let one = |event: Event, told: &Told<T>| -> (Result<Reply<()>, Unanswered>, Told<T>)
                 ensures told { OnOk result.0 (AsksBehind told.now result.1) }
                 ensures reply { IfOk result.0 (IsAnswer D.Disk T.Trace result.1 session.entry.settles_gets event) }
@@ -257,7 +256,7 @@ impl<D: Viewed, T: Trace, N: DeskId + InboxId + LogId, G: Gate, R: Wait + Clock>
                 facts: &facts,
                 told: session.told(),
             };
-            self.answer(number, &stream, asking);
+            self.answer(&newcomer, asking);
         }
         slot.lock(self.rt).leave();
     }

@@ -1,8 +1,8 @@
 // Where connections come from.
-ghost use Rattle.std.specs.Prelude.{◌≡◌, ℕ, ◌+◌, ◌<◌, ◌≤◌, ◌^◌, IfOk, MatchResult};
+ghost use Rattle.std.specs.Prelude.{◌≡◌, ℕ, ◌+◌, IfOk, MatchResult};
 
-use silt_session::Newcomer;
-use std::io;
+use silt_session::{Newcomer, SessionNumbers};
+use std::io::{self, ErrorKind};
 use std::net::{TcpListener, TcpStream};
 
 /// Accepts connections at a port.
@@ -37,11 +37,11 @@ impl Listens for TcpListener {
     fn wake(&self) {}
 }
 
-/// A listener, and how many connections it accepted.
+/// A listener, and how many connections it accepted: it gives each a number.
 #[derive(Drop)]
 pub struct CountingListener<'a, L: Listens> {
     listener: &'a L,
-    accepted: u64,
+    accepted: SessionNumbers,
 }
 
 impl<'a, L: Listens> CountingListener<'a, L> {
@@ -51,21 +51,19 @@ impl<'a, L: Listens> CountingListener<'a, L> {
     {
         CountingListener {
             listener,
-            accepted: 0,
+            accepted: SessionNumbers::new(),
         }
     }
 
     /// Waits for a connection, and counts it: this is its number.
     pub fn accept(&mut self) -> io::Result<Newcomer>
         ensures number { IfOk result (λ newcomer. newcomer.number ≡ self.new.accepted) }
-        ensures more { MatchResult result (λ _. self.old.accepted < 2 ^ 32 → self.new.accepted ≡ self.old.accepted + 1) (λ _. self.new.accepted ≡ self.old.accepted) }
-        ensures least { self.old.accepted ≤ self.new.accepted }
+        ensures more { MatchResult result (λ _. self.new.accepted ≡ self.old.accepted + 1) (λ _. self.new.accepted ≡ self.old.accepted) }
     {
         let stream = self.listener.wait()?;
-        self.accepted = self.accepted.saturating_add(1);
-        Ok(Newcomer {
-            stream,
-            number: self.accepted,
-        })
+        match self.accepted.next() {
+            Some(number) => Ok(Newcomer { stream, number }),
+            None => Err(ErrorKind::Other.into()),
+        }
     }
 }

@@ -22,7 +22,7 @@ use silt_disk::Disk;
 use silt_event::{Event, Facts, Reply};
 use silt_inbox::{InboxId, Taker};
 use silt_session::{
-    AskAheadBy, AskedEvents, Board, Job, LogId, Newcomer, Session, SetAsking, Told, Unanswered,
+    AskAheadBy, AskedEvents, Board, Job, LogId, Session, SessionNumber, SetAsking, Told, Unanswered,
 };
 use std::alloc::Global;
 use std::io;
@@ -106,9 +106,14 @@ impl<D: Viewed, T: Trace, N: DeskId + InboxId + LogId, G: Gate, R: Wait + Clock>
 > {
     // The sessions of this number in a slot, one at each shard, in their order. Their gets show only what a crash keeps. None if out of
     // memory.
-    fn sessions(&self, slot: usize, number: u64) -> Option<Vec<ShardSession<'_, D, T, N, R>>>
+    fn sessions(
+        &self,
+        slot: usize,
+        number: &SessionNumber,
+    ) -> Option<Vec<ShardSession<'_, D, T, N, R>>>
         ensures count { IfSome result (λ sessions. vec_len sessions ≡ length self.now.shards.now) }
         ensures settle { IfSome result (λ sessions. All (λ at. at.session.settles_gets ≡ true) sessions.items) }
+        ensures number { IfSome result (λ sessions. All (λ at. at.session.number ≡ number.now) sessions.items) }
     {
         let mut sessions = Vec::with_capacity(self.alloc, self.shards.len()).ok()?;
         for shard in self.shards {
@@ -129,22 +134,16 @@ impl<D: Viewed, T: Trace, N: DeskId + InboxId + LogId, G: Gate, R: Wait + Clock>
             return;
         };
         let newcomer = slot.lock(first.rt).connection();
-        if let Some(
-            Newcomer {
-                stream,
-                number: session,
-            },
-        ) = newcomer
-        {
-            if let Some(sessions) = self.sessions(number, session) {
+        if let Some(newcomer) = newcomer {
+            if let Some(sessions) = self.sessions(number, &newcomer.number) {
                 let connection = Connection {
                     rt: first.rt,
                     alloc: first.alloc,
                     board: first.board,
                     limits: first.limits,
                     value_len: first.value_len,
-                    number: session,
-                    stream: &stream,
+                    number: newcomer.number.get(),
+                    stream: &newcomer.stream,
                 };
                 self.answer(sessions.as_slice(), &connection);
             }

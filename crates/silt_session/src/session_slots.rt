@@ -1,6 +1,7 @@
 // The slots of the sessions.
 ghost use Rattle.std.specs.Prelude.{◌≡◌, ◌<◌, true, false, not, length, Some, None, IfSome, IfOk, vec_len};
 
+use crate::session_number::SessionNumber;
 use silt_inbox::{Feeder, InboxId};
 use std::alloc::{AllocError, Global};
 use std::mem;
@@ -11,7 +12,7 @@ use std::sync::{Mutex, Wait};
 #[derive(Drop)]
 pub struct Newcomer {
     pub stream: TcpStream,
-    pub number: u64,
+    pub number: SessionNumber,
 }
 
 /// The slot of one session: its feeder, whether a session has it, and the connection that waits for its thread.

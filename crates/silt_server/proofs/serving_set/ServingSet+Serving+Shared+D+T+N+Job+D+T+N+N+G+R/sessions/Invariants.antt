@@ -7,4 +7,5 @@ invariant-loop-shard g l = record {
   count : vec_len l.sessions ≡ l.shard-index;
   room : length l.shard-items ≤ vec_capacity l.sessions;
   settle : All (λ at. at.session.settles_gets ≡ true) l.sessions.items;
+  number : All (λ at. at.session.number ≡ l.number) l.sessions.items;
 }
