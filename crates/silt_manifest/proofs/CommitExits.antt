@@ -1,9 +1,9 @@
 -- The state at each exit of the call that opens a next record's commit byte.
-use Rattle.silt_manifest.proofs.Common.{◌≡◌, ℕ, ◌+◌, ◌%◌, ◌≤◌, inl, inr, true, false, List, [], ◌∷◌, length, get_or, slice_range, slice_index, Some, None, refl, sym, ap, ◌∙◌, arith, cases_Bool}
-use Rattle.silt_manifest.proofs.Common.{Content, LeavesOnly, Torn, ChangesWithin, Writes, Rests, size, splice, header_of, version_of, slot_at, within_leaves, write_shows, rests_leaves, leaves_shows}
-use Rattle.silt_manifest.proofs.Common.{sized_leaves, sized_shows, torn_splice, torn_slice_after, is_open, FitsSlot, FitsDigests, long_record, record_bytes, record_of, slot_of, is_slot_open}
-use Rattle.silt_manifest.proofs.Common.{record_behind, open_record, current_manifest, ManifestState, IsNext, IsPrepared, IsCurrentIn, IsReady, IsCurrent, with_current, current_record, current_slot}
-use Rattle.silt_manifest.proofs.Common.{spare_slot, Body, Digests, SlotRecord}
+use Rattle.silt_manifest.proofs.Common.{◌≡◌, ℕ, ◌+◌, ◌%◌, ◌≤◌, inl, inr, true, false, List, [], ◌∷◌, length, get_or, slice_range, slice_index, Some, sym, ap, ◌∙◌, arith, cases_Bool, Content}
+use Rattle.silt_manifest.proofs.Common.{LeavesOnly, Torn, ChangesWithin, Writes, Rests, size, splice, header_of, version_of, slot_at, within_leaves, write_shows, rests_leaves, leaves_shows}
+use Rattle.silt_manifest.proofs.Common.{sized_leaves, sized_shows, torn_splice, torn_slice_after, is_open, FitsSlot, FitsDigests, long_record, record_bytes, slot_of, is_slot_open, record_behind}
+use Rattle.silt_manifest.proofs.Common.{open_record, current_manifest, ManifestState, IsNext, IsPrepared, IsCurrentIn, IsReady, IsCurrent, with_current, current_record, current_slot, spare_slot}
+use Rattle.silt_manifest.proofs.Common.{Body, Digests, SlotRecord}
 use Rattle.silt_manifest.specs.Standing.{OldOrNewIsCurrent}
 use Rattle.silt_manifest.proofs.DigestTrip.{record_law}
 use Rattle.silt_manifest.proofs.SlotImages.{slot_parts, closed_record, opened_record, other_same, commit_written, version_stays}
@@ -15,25 +15,18 @@ use Rattle.silt_manifest.proofs.PrepareExits.{two_slots}
 pub holds_record : (image : List ℕ) (slot : ℕ) (b : Body) (d : Digests) → slot_at slot + 461 ≤ length image → FitsSlot b → FitsDigests d
     → is_slot_open image slot ≡ true → slice_range image (slot_at slot + 1) (slot_at slot + 461) ≡ record_bytes b d → open_record image slot ≡ Some (long_record b d)
 holds_record image slot b d room fits fits_digests opened bytes =
-    let commit = get_or image (slot_at slot) 0 in
-    let whole : slot_of image slot ≡ commit ∷ record_bytes b d = slot_parts image slot room ∙ ap (λ (rest : List ℕ). commit ∷ rest) bytes in
-    opened_record (slot_of image slot) opened ∙ ap Some (ap record_of whole ∙ record_law b d commit fits fits_digests)
+    cc (slot_parts image slot room, opened_record (slot_of image slot) opened, record_law b d (get_or image (slot_at slot) 0) fits fits_digests)
 
 -- a slot that holds a record is open
 pub holds_open : (bytes : List ℕ) (b : SlotRecord) → record_behind bytes ≡ Some b → is_open (slice_index bytes 0) ≡ true
-holds_open bytes b holds =
-    elim (cases_Bool (is_open (slice_index bytes 0))) [
-      | inl opened ↦ opened
-      | inr closed ↦ let none : record_behind bytes ≡ None = closed_record bytes closed in absurd (cc)
-    ]
+holds_open bytes b holds = grind (arith, cases_Bool, closed_record)
 
 module _ (m : ManifestState) (next : Body) (digests : Digests) (n : ℕ) (fits : slot_at 1 + 4096 ≤ n) (follows : IsNext m next) (held : FitsSlot next) (held_digests : FitsDigests digests) where
   -- the current slot stays when the commit byte is written
   current_stays : (before after : List ℕ) → (length before ≡ n) × IsReady m next digests before → Torn (slot_at (spare_slot m)) 1 before after
       → open_record after (current_slot m) ≡ open_record before (current_slot m)
   current_stays before after (size, ready) torn =
-      let slots = two_slots m in
-      ap record_behind (other_same (current_slot m) (spare_slot m) (slot_at (spare_slot m)) 1 before after slots (omega arith) (omega arith) (omega arith) torn)
+      ap record_behind (other_same (current_slot m) (spare_slot m) (slot_at (spare_slot m)) 1 before after (omega arith) (omega arith) (omega arith) (omega arith) torn)
 
   -- so does the version
   same_version : (before after : List ℕ) → (length before ≡ n) × IsReady m next digests before → Torn (slot_at (spare_slot m)) 1 before after
@@ -51,10 +44,9 @@ module _ (m : ManifestState) (next : Body) (digests : Digests) (n : ℕ) (fits :
       torn_slice_after (slot_at (spare_slot m)) 1 before after torn (slot_at (spare_slot m) + 1) (slot_at (spare_slot m) + 461) (omega arith) (omega arith) ∙ ready.bytes in
       let holds : open_record after (spare_slot m) ≡ Some (long_record next digests) = holds_record after (spare_slot m) next digests room held held_digests opened bytes in (
         holds,
-        newer_is_current m.shape (version_of (header_of before)) (current_slot m) (spare_slot m) (current_record m) (long_record next digests) after (same_version before after was torn) slots
-            (current_is_sound m.shape (current_slot m) (spare_slot m) (current_record m) before slots ready.stands ready.current)
-            (long_sound m.shape (version_of (header_of before)) (spare_slot m) (long_record next digests) refl follows.sound)
-            follows.generation (current_stays before after was torn ∙ ready.stands) holds,
+        newer_is_current m.shape (version_of (header_of before)) (current_slot m) (spare_slot m) (current_record m) (long_record next digests) after
+            (same_version before after was torn) slots (current_is_sound m.shape (current_slot m) (spare_slot m) (current_record m) before slots ready.stands
+            ready.current) (search (arith, long_sound)) follows.generation (current_stays before after was torn ∙ ready.stands) holds,
       )
 
   -- the commit byte may be written or not
@@ -65,9 +57,8 @@ module _ (m : ManifestState) (next : Body) (digests : Digests) (n : ℕ) (fits :
       elim (cases_Bool (is_slot_open after (spare_slot m))) [
         | inl opened ↦ inr ((new_record_is_current before after was torn opened).1 ∙ sym prepared)
         | inr closed ↦
-            inl (stays_current m.shape (current_slot m) (spare_slot m) (current_record m) before after (same_version before after was torn)
-            slots was.1.stands was.1.current (current_stays before after was torn)
-            (inl (closed_record (slot_of after (spare_slot m)) closed)))
+            inl (stays_current m.shape (current_slot m) (spare_slot m) (current_record m) before after (same_version before after was torn) slots was.1.stands
+            was.1.current (current_stays before after was torn) (inl (closed_record (slot_of after (spare_slot m)) closed)))
       ]
 
   -- the commit byte is written
@@ -99,4 +90,4 @@ pub all_committed : (m : ManifestState) (next : Body) (digests : Digests) (old n
     → IsPrepared m next digests old → at ≡ slot_at (spare_slot m) → Writes at (167 ∷ []) old new → Rests new → IsCurrent (with_current m.shape (long_record next digests) false) new
 all_committed m next digests old new at fits prepared is writes rests =
     let here : Writes (slot_at (spare_slot m)) (167 ∷ []) old new = rw is at writes in
-    rests_leaves rests (write_shows here (sized_shows (leaves_shows prepared.leaves)) (new_is_current_in m next digests (size old) fits prepared.follows prepared.fits prepared.fits_digests))
+    rests_leaves rests (write_shows here (sized_shows (leaves_shows prepared.leaves)) (new_is_current_in m next _ _ fits prepared.follows prepared.fits prepared.fits_digests))

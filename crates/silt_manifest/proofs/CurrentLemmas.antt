@@ -4,16 +4,6 @@ use Rattle.silt_manifest.proofs.Common.{version_of, Shape, Version, is_sound_rec
 use Rattle.std.proofs.Common.{Ok}
 use Rattle.silt_manifest.specs.Current.{record_found}
 
--- the slot 0 alone is open
-alone_first : (s : Shape) (v : Version) (b : SlotRecord) → is_sound_record s v 0 (Some b) ≡ true → record_found s v (Some b) None ≡ Ok b
-unfolding record_found
-alone_first s v b sound = rw sound refl
-
--- the slot 1 alone is open
-alone_second : (s : Shape) (v : Version) (b : SlotRecord) → is_sound_record s v 1 (Some b) ≡ true → record_found s v None (Some b) ≡ Ok b
-unfolding record_found
-alone_second s v b sound = rw sound refl
-
 -- of two, the second is newer
 pub newer_second : (s : Shape) (v : Version) (a b : SlotRecord) → is_sound_record s v 0 (Some a) ≡ true → is_sound_record s v 1 (Some b) ≡ true
     → nat_lt a.body.generation b.body.generation ≡ true → record_found s v (Some a) (Some b) ≡ Ok b
@@ -39,29 +29,16 @@ none_is_current s v first second slot b refused is_current = let none : where_fo
 -- if there is a current record, the first slot is sound
 first_is_sound : (s : Shape) (v : Version) (first second : Option SlotRecord) (b : SlotRecord) → where_found (record_found s v first second) ≡ Some b → is_sound_record s v 0 first ≡ true
 unfolding record_found
-first_is_sound s v first second b is_current =
-    elim (cases_Bool (is_sound_record s v 0 first)) [
-      | inl sound ↦ sound
-      | inr unsound ↦ let refused : record_found s v first second ≡ Err (Slot 0) = rw unsound refl in absurd (none_is_current s v first second 0 b refused is_current)
-    ]
+first_is_sound s v first second b is_current = grind (arith, cases_Bool, none_is_current)
 
 -- and the second
 second_is_sound : (s : Shape) (v : Version) (first second : Option SlotRecord) (b : SlotRecord) → where_found (record_found s v first second) ≡ Some b → is_sound_record s v 1 second ≡ true
 unfolding record_found
-second_is_sound s v first second b is_current =
-    let sound = first_is_sound s v first second b is_current in
-    elim (cases_Bool (is_sound_record s v 1 second)) [
-      | inl sound_too ↦ sound_too
-      | inr unsound ↦ let refused : record_found s v first second ≡ Err (Slot 1) = rw (sound, unsound) refl in absurd (none_is_current s v first second 1 b refused is_current)
-    ]
+second_is_sound s v first second b is_current = grind (arith, first_is_sound, cases_Bool, none_is_current)
 
 -- what holds of the slots 0 and 1, in both orders, holds of each slot and the other one
 either : (P : ℕ → ℕ → Type 0) → P 0 1 → P 1 0 → (r o : ℕ) → r + o ≡ 1 → P r o
-either P first second r o slots =
-    elim (cases_eq r 0) [
-      | inl zero_r ↦ let one_o : o ≡ 1 = omega arith in rw (zero_r, one_o) first
-      | inr not_zero ↦ let one_r : r ≡ 1 = omega arith in let zero_o : o ≡ 0 = omega arith in rw (one_r, zero_o) second
-    ]
+either P first second r o slots = grind (arith, cases_eq)
 
 -- the current record of an image is sound in its slot
 pub current_is_sound : (s : Shape) (r o : ℕ) (b : SlotRecord) (image : List ℕ) → r + o ≡ 1 → open_record image r ≡ Some b
@@ -70,39 +47,34 @@ current_is_sound s r o b image slots stands is_current =
     let v = version_of (header_of image) in
     let zeroth = open_record image 0 in
     let first = open_record image 1 in
-    either (λ r o. open_record image r ≡ Some b → is_sound_record s v r (Some b) ≡ true)
-    (λ here. ap (is_sound_record s v 0) (sym here) ∙ first_is_sound s v zeroth first b is_current)
+    either (λ r o. open_record image r ≡ Some b → is_sound_record s v r (Some b) ≡ true) (λ here. ap (is_sound_record s v 0) (sym here) ∙ first_is_sound s v zeroth first b is_current)
     (λ here. ap (is_sound_record s v 1) (sym here) ∙ second_is_sound s v zeroth first b is_current) r o slots stands
 
 -- a record is found whose slot is the only open one
 pub alone_found : (s : Shape) (v : Version) (r o : ℕ) (b : SlotRecord) (image : List ℕ) → version_of (header_of image) ≡ v → r + o ≡ 1
     → is_sound_record s v r (Some b) ≡ true → open_record image r ≡ Some b → open_record image o ≡ None → manifest_found s image ≡ Ok b
+unfolding record_found
 alone_found s v r o b image is =
     either (λ r o. is_sound_record s v r (Some b) ≡ true → open_record image r ≡ Some b → open_record image o ≡ None → manifest_found s image ≡ Ok b)
-    (λ sound stands closed. found_at s v image (Some b) None is stands closed ∙ alone_first s v b sound)
-    (λ sound stands closed. found_at s v image None (Some b) is closed stands ∙ alone_second s v b sound) r o
+    (λ sound here closed. let found : record_found s v (Some b) None ≡ Ok b = rw sound refl in found_at s v image (Some b) None is here closed ∙ found)
+    (λ sound here closed. let found : record_found s v None (Some b) ≡ Ok b = rw sound refl in found_at s v image None (Some b) is closed here ∙ found) r o
 
 -- a record is current if it is newer than the other
-pub newer_is_current : (s : Shape) (v : Version) (r o : ℕ) (a b : SlotRecord) (image : List ℕ) → version_of (header_of image) ≡ v → r + o ≡ 1
-    → is_sound_record s v r (Some a) ≡ true → is_sound_record s v o (Some b) ≡ true → b.body.generation ≡ a.body.generation + 1
-    → open_record image r ≡ Some a → open_record image o ≡ Some b → current_manifest s image ≡ Some b
+pub newer_is_current : (s : Shape) (v : Version) (r o : ℕ) (a b : SlotRecord) (image : List ℕ) → version_of (header_of image) ≡ v → r + o ≡ 1 → is_sound_record s v r (Some a) ≡ true
+    → is_sound_record s v o (Some b) ≡ true → b.body.generation ≡ a.body.generation + 1 → open_record image r ≡ Some a → open_record image o ≡ Some b → current_manifest s image ≡ Some b
 newer_is_current s v r o a b image is slots sound_a sound_b next =
     let newer : nat_lt a.body.generation b.body.generation ≡ true = grind (arith, nat_tests) in
     let older : nat_lt b.body.generation a.body.generation ≡ false = grind (arith, nat_tests) in
-    either (λ r o. is_sound_record s v r (Some a) ≡ true → is_sound_record s v o (Some b) ≡ true
-    → open_record image r ≡ Some a → open_record image o ≡ Some b → current_manifest s image ≡ Some b)
-    (λ sound_a sound_b here there. ap where_found (found_at s v image (Some a) (Some b) is here there ∙ newer_second s v a b sound_a sound_b newer))
-    (λ sound_a sound_b here there. ap where_found (found_at s v image (Some b) (Some a) is there here ∙ newer_first s v b a sound_b sound_a older))
-    r o slots sound_a sound_b
+    either (λ r o. is_sound_record s v r (Some a) ≡ true → is_sound_record s v o (Some b) ≡ true → open_record image r ≡ Some a → open_record image o ≡ Some b
+    → current_manifest s image ≡ Some b) (λ sound_a sound_b here there. cc (newer_second s v a b sound_a sound_b newer))
+    (λ sound_a sound_b here there. cc (newer_first s v b a sound_b sound_a older)) r o slots sound_a sound_b
 
 -- images of one version whose slots hold the same have the same current record
 pub same_is_current : (s : Shape) (r o : ℕ) (before after : List ℕ) → version_of (header_of after) ≡ version_of (header_of before) → r + o ≡ 1
     → open_record after r ≡ open_record before r → open_record after o ≡ open_record before o → current_manifest s after ≡ current_manifest s before
 same_is_current s r o before after is =
-    let same : open_record after 0 ≡ open_record before 0 → open_record after 1 ≡ open_record before 1 → current_manifest s after ≡ current_manifest s before =
-    λ zeroth first. ap where_found (found_at s (version_of (header_of before)) after (open_record before 0) (open_record before 1) is zeroth first) in
     either (λ r o. open_record after r ≡ open_record before r → open_record after o ≡ open_record before o
-    → current_manifest s after ≡ current_manifest s before) same (λ first zeroth. same zeroth first) r o
+    → current_manifest s after ≡ current_manifest s before) (λ zeroth first. cc) (λ first zeroth. cc) r o
 
 -- a record stays current if its slot stays, and the other one is closed or stays too
 pub stays_current : (s : Shape) (r o : ℕ) (b : SlotRecord) (before after : List ℕ) → version_of (header_of after) ≡ version_of (header_of before)
@@ -110,6 +82,6 @@ pub stays_current : (s : Shape) (r o : ℕ) (b : SlotRecord) (before after : Lis
     → (open_record after o ≡ None) ⊎ (open_record after o ≡ open_record before o) → current_manifest s after ≡ Some b
 stays_current s r o b before after is slots stands is_current same_r other =
     elim other [
-      | inl closed ↦ ap where_found (alone_found s (version_of (header_of before)) r o b after is slots (current_is_sound s r o b before slots stands is_current) (same_r ∙ stands) closed)
+      | inl closed ↦ ap where_found (alone_found s _ r o b after is slots (current_is_sound s r o b before slots stands is_current) (same_r ∙ stands) closed)
       | inr same_o ↦ same_is_current s r o before after is slots same_r same_o ∙ is_current
     ]

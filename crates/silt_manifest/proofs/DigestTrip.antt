@@ -1,7 +1,7 @@
 -- What is written of digests is what is read.
-use Rattle.silt_manifest.proofs.Common.{◌≡◌, ℕ, suc, ◌+◌, ◌-◌, ◌*◌, ◌<◌, true, nat_le, List, [], ◌∷◌, ◌++◌, length, map, take, drop, get_or, slice_range, refl, sym, ap, ◌∙◌, arith, append_assoc}
-use Rattle.silt_manifest.proofs.Common.{append-nil, length-append, range_with_len, nat_tests, number_at, Digest, FitsSlot, body_bytes, long_bit, FitsDigests, digest_at, digest_bytes, digests_bytes}
-use Rattle.silt_manifest.proofs.Common.{digests_of, is_long, record_bytes, Body, Digests}
+use Rattle.silt_manifest.proofs.Common.{◌≡◌, ℕ, suc, ◌+◌, ◌*◌, ◌<◌, true, nat_le, List, [], ◌∷◌, ◌++◌, length, map, get_or, refl, sym, ap, ◌∙◌, arith, append_assoc, append-nil, length-append}
+use Rattle.silt_manifest.proofs.Common.{range_with_len, nat_tests, number_at, Digest, FitsSlot, body_bytes, long_bit, FitsDigests, digest_at, digest_bytes, digests_bytes, digests_of, is_long}
+use Rattle.silt_manifest.proofs.Common.{record_bytes, Body, Digests}
 use Rattle.std.proofs.Common.{drop_at, take_at}
 use Rattle.silt_manifest.specs.Body.{body_of}
 use Rattle.silt_manifest.specs.Digests.{RecordLaw}
@@ -9,11 +9,7 @@ use Rattle.silt_manifest.proofs.RoundTrip.{body_law, fitting_length, generation_
 
 -- a digest behind some bytes
 digest_behind : (d : Digest) (i : ℕ) (pre post : List ℕ) → length pre ≡ i → length d.0 ≡ 20 → digest_at i (pre ++ (d.0 ++ post)) ≡ d
-digest_behind d i pre post e long =
-    let there : drop i (pre ++ (d.0 ++ post)) ≡ d.0 ++ post = drop_at pre (d.0 ++ post) i e in
-    let size : i + 20 - i ≡ 20 = omega arith in
-    let cut : slice_range (pre ++ (d.0 ++ post)) i (i + 20) ≡ d.0 = ap (take (i + 20 - i)) there ∙ ap (λ (k : ℕ). take k (d.0 ++ post)) size ∙ take_at d.0 post 20 long in
-    ap (λ (bytes : List ℕ). (let x : Digest = record { 0 = bytes } in x)) cut
+digest_behind d i pre post e long = grind (arith, drop_at, take_at)
 
 -- digests of 20 bytes each
 abbrev pub AllLong : List Digest → Digest → Type 0
@@ -33,31 +29,21 @@ digests_behind (d ∷ ds) none i pre post e long =
     let two : bytes ≡ (pre ++ d.0) ++ (digest_bytes ds ++ post) = one ∙ sym (append_assoc pre d.0 (digest_bytes ds ++ post)) in
     let first : length d.0 ≡ 20 = long 0 (omega arith) in
     let place : i + 20 * 0 ≡ i = omega arith in
-    let head : digest_at (i + 20 * 0) bytes ≡ d = ap (λ (k : ℕ). digest_at k bytes) place ∙ ap (digest_at i) one ∙ digest_behind d i pre (digest_bytes ds ++ post) e first in
+    let head : digest_at (i + 20 * 0) bytes ≡ d = cc (digest_behind d i pre (digest_bytes ds ++ post) e first) in
     let moved : (k : ℕ) → digest_at (i + 20 * (k + 1)) bytes ≡ digest_at (i + 20 + 20 * k) ((pre ++ d.0) ++ (digest_bytes ds ++ post)) =
-    λ k. let same : i + 20 * (k + 1) ≡ i + 20 + 20 * k = omega arith in ap (λ (j : ℕ). digest_at j bytes) same ∙ ap (digest_at (i + 20 + 20 * k)) two in
+    λ k. let same : i + 20 * (k + 1) ≡ i + 20 + 20 * k = omega arith in cc in
     let rest = digests_behind ds none (i + 20) (pre ++ d.0) post (omega (arith, length-append pre d.0, e, first)) (long_rest d ds none long) in
-    let tail : map (λ k. digest_at (i + 20 * k) bytes) (range_with_len 1 (length ds)) ≡ ds =
-    range_on (λ k. digest_at (i + 20 * k) bytes) 0 (length ds) ∙ map_same _ _ (range_with_len 0 (length ds)) moved ∙ rest in
-    cc
+    cc (range_on (λ k. digest_at (i + 20 * k) bytes) 0 (length ds), map_same _ _ (range_with_len 0 (length ds)) moved)
 
 -- twenty bytes for each digest
 pub length_digest_bytes : (ds : List Digest) (none : Digest) → AllLong ds none → length (digest_bytes ds) ≡ 20 * length ds
 length_digest_bytes [] none long = refl
-length_digest_bytes (d ∷ ds) none long =
-    let first : length d.0 ≡ 20 = long 0 (omega arith) in
-    let rest = length_digest_bytes ds none (long_rest d ds none long) in
-    omega (arith, length-append d.0 (digest_bytes ds), first, rest)
+length_digest_bytes (d ∷ ds) none long = omega (arith, length-append d.0 (digest_bytes ds), long 0 (omega arith), length_digest_bytes ds none (long_rest d ds none long))
 
 -- 340 bytes
 pub length_digests_bytes : (d : Digests) → FitsDigests d → length (digests_bytes d) ≡ 340
-length_digests_bytes d fits = omega (
-  arith,
-  length-append (digest_bytes d.hashed) d.sorted.0,
-  fits.sorted,
-  fits.count,
-  length_digest_bytes d.hashed d.sorted (λ k inside. fits.hashed k (omega (arith, fits.count))),
-)
+length_digests_bytes d fits =
+    omega (arith, length-append (digest_bytes d.hashed) d.sorted.0, fits.sorted, fits.count, length_digest_bytes d.hashed d.sorted (λ k inside. fits.hashed k (omega (arith, fits.count))))
 
 -- 460 bytes
 pub length_record_bytes : (b : Body) (d : Digests) → FitsSlot b → FitsDigests d → length (record_bytes b d) ≡ 460

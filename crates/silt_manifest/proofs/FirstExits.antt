@@ -12,16 +12,7 @@ use Rattle.silt_manifest.proofs.CommitExits.{holds_record}
 
 -- the first body's numbers fit their fields
 pub first_fits : FitsSlot first_body
-first_fits = record {
-  generation = omega arith;
-  active = omega arith;
-  frozen_count = omega arith;
-  frozen = refl;
-  hashed_count = omega arith;
-  hashed = refl;
-  sorted = omega arith;
-  sorted_count = omega arith;
-}
+first_fits = grind arith
 
 -- and it is well formed in each geometry
 pub first_sound : (s : Shape) → InLimits s → is_well_formed s 0 first_body ≡ true
@@ -54,13 +45,9 @@ module _ (digests : Digests) (held : FitsDigests digests) (n : ℕ) (fits : slot
   -- after the bytes
   after_bytes : (bytes : List ℕ) → length bytes ≡ 460 → bytes ≡ record_bytes first_body digests → (before : List ℕ) → IsAlone n before → HasBytes digests n (splice 4097 bytes before)
   after_bytes bytes long are before was =
-      let now = still_alone 4097 (length bytes) before (splice 4097 bytes before) (omega arith) (omega arith) was (torn_splice 4097 bytes before (omega arith)) in
+      let now = still_alone 4097 _ before _ (omega arith) (omega arith) was (torn_splice 4097 bytes before (omega arith)) in
       let end : 4097 + length bytes ≡ 4557 = omega arith in
-      record {
-        size = now.size;
-        closed = now.closed;
-        bytes = sym (ap (λ (j : ℕ). slice_range (splice 4097 bytes before) 4097 j) end) ∙ splice_slice 4097 bytes before (omega arith) ∙ are;
-      }
+      record { size = now.size; closed = now.closed; bytes = cc (splice_slice 4097 bytes before (omega arith)) }
 
   -- after the commit byte
   after_commit : (before : List ℕ) → HasBytes digests n before → IsFirst digests (splice 4096 (167 ∷ []) before)
@@ -78,9 +65,8 @@ module _ (digests : Digests) (held : FitsDigests digests) (n : ℕ) (fits : slot
       }
 
 -- all is written
-pub all_first : (digests : Digests) (bytes : List ℕ) (a b c d : Content) → FitsDigests digests → slot_at 1 + 4096 ≤ size a
-    → LeavesOnly a (λ image. is_slot_open image 1 ≡ false) → bytes ≡ record_bytes first_body digests → Writes 4096 (0 ∷ []) a b
-    → Writes 4097 bytes b c → Writes 4096 (167 ∷ []) c d → Rests d → LeavesOnly d (IsFirst digests)
+pub all_first : (digests : Digests) (bytes : List ℕ) (a b c d : Content) → FitsDigests digests → slot_at 1 + 4096 ≤ size a → LeavesOnly a (λ image. is_slot_open image 1 ≡ false)
+    → bytes ≡ record_bytes first_body digests → Writes 4096 (0 ∷ []) a b → Writes 4097 bytes b c → Writes 4096 (167 ∷ []) c d → Rests d → LeavesOnly d (IsFirst digests)
 all_first digests bytes a b c d held fits closed are first second third rests =
     let alone = sized_shows (leaves_shows closed) in
     let long : length bytes ≡ 460 = ap length are ∙ length_record_bytes first_body digests first_fits held in

@@ -1,8 +1,8 @@
 -- What keeps a record current, for a crate above to cite.
-use Rattle.silt_manifest.proofs.Common.{◌≡◌, ℕ, ◌+◌, ◌<◌, ◌≤◌, false, List, [], ◌∷◌, length, refl, sym, ap, ◌∙◌, inl, inr, arith, slice_index, cases_eq, ChangesWithin, Content, LeavesOnly, Rests}
-use Rattle.silt_manifest.proofs.Common.{Shows, Torn, Writes, size, header_of, version_of, Shape, slot_at, torn_slice_after, torn_slice_before, rests_leaves, sized_leaves, sized_shows, within_leaves}
-use Rattle.silt_manifest.proofs.Common.{write_shows, record_behind, is_slot_open, manifest_found, open_record, slot_of, where_found, Digests, IsFirst, IsCurrentIn, ManifestState, IsCurrent}
-use Rattle.silt_manifest.proofs.Common.{current_slot, spare_slot, is_open}
+use Rattle.silt_manifest.proofs.Common.{◌≡◌, ℕ, ◌+◌, ◌<◌, ◌≤◌, false, List, [], ◌∷◌, length, refl, ap, ◌∙◌, inl, inr, arith, slice_index, cases_eq, ChangesWithin, Content, LeavesOnly, Rests}
+use Rattle.silt_manifest.proofs.Common.{Shows, Torn, Writes, size, header_of, version_of, Shape, slot_at, torn_slice_after, torn_slice_before, rests_leaves, sized_leaves, sized_shows}
+use Rattle.silt_manifest.proofs.Common.{within_leaves, write_shows, record_behind, is_slot_open, manifest_found, open_record, slot_of, where_found, Digests, IsFirst, IsCurrentIn, ManifestState}
+use Rattle.silt_manifest.proofs.Common.{IsCurrent, current_slot, spare_slot, is_open}
 use Rattle.silt_disk.specs.Disk.{LiesOutside}
 use Rattle.silt_disk.proofs.Images.{within_shows}
 use Rattle.silt_manifest.specs.Current.{ClosedSlotLaw, OtherRecordsLaw, OtherRegionsLaw}
@@ -18,14 +18,10 @@ same_found s before after version first second = found_at s (version_of (header_
 pub closed_slots : ClosedSlotLaw
 closed_slots s slot before after below fits torn closed still =
     let version = version_stays (slot_at slot) 4096 before after (omega arith) (omega arith) torn in
+    let other = λ (r : ℕ) (slots : r + slot ≡ 1). ap record_behind (other_same r slot (slot_at slot) 4096 before after slots (omega arith) (omega arith) fits torn) in
     elim (cases_eq slot 0) [
-      | inl zero ↦
-          same_found s before after version (ap (open_record after) (sym zero) ∙ still ∙ sym closed ∙ ap (open_record before) zero)
-          (ap record_behind (other_same 1 slot (slot_at slot) 4096 before after (omega arith) (omega arith) (omega arith) fits torn))
-      | inr not_zero ↦
-          let one : slot ≡ 1 = omega arith in
-          same_found s before after version (ap record_behind (other_same 0 slot (slot_at slot) 4096 before after (omega arith) (omega arith) (omega arith) fits torn))
-          (ap (open_record after) (sym one) ∙ still ∙ sym closed ∙ ap (open_record before) one)
+      | inl zero ↦ same_found s before after version (cc) (other 1 (omega arith))
+      | inr not_zero ↦ let one : slot ≡ 1 = omega arith in same_found s before after version (other 0 (omega arith)) (cc)
     ]
 
 -- a change outside the slots leaves each as it is
@@ -59,12 +55,6 @@ header_elsewhere at count before after fits apart torn =
       | inr high ↦ ap version_of (torn_slice_before at count before after torn 0 37 (omega arith) (omega arith))
     ]
 
--- and what is found
-found_elsewhere : (s : Shape) (at count : ℕ) (before after : List ℕ) → slot_at 1 + 4096 ≤ length before → LiesOutside 0 12288 at count
-    → Torn at count before after → manifest_found s after ≡ manifest_found s before
-found_elsewhere s at count before after fits apart torn =
-    other_regions s at count before after fits (outside_slots at count apart) torn (header_elsewhere at count before after (omega arith) apart torn)
-
 -- the record of an image stays current under a change outside the header and the slots
 current_in_elsewhere : (m : ManifestState) (n at count : ℕ) → slot_at 1 + 4096 ≤ n → LiesOutside 0 12288 at count → (before after : List ℕ)
     → (length before ≡ n) × IsCurrentIn m before → Torn at count before after → IsCurrentIn m after
@@ -72,7 +62,7 @@ current_in_elsewhere m n at count fits apart before after (size, was_current) to
     let room : slot_at 1 + 4096 ≤ length before = omega arith in
     let apart_too = outside_slots at count apart in
     record {
-      current = ap where_found (found_elsewhere m.shape at count before after room apart torn) ∙ was_current.current;
+      current = ap where_found (other_regions m.shape at count before after room apart_too torn (header_elsewhere at count before after (omega arith) apart torn)) ∙ was_current.current;
       stands = other_records (current_slot m) at count before after (omega arith) room apart_too torn ∙ was_current.stands;
       spare = ap (λ bytes. is_open (slice_index bytes 0)) (slot_elsewhere at count (spare_slot m) before after (omega arith) room apart_too torn) ∙ was_current.spare;
     }
@@ -100,8 +90,7 @@ closed_elsewhere slot at count old new below fits apart changes shown =
 -- and the first record
 pub first_elsewhere : {digests : Digests} (at count : ℕ) (old new : Content) → slot_at 1 + 4096 ≤ size old → LiesOutside (slot_at 0) 8192 at count
     → ChangesWithin at count old new → LeavesOnly old (IsFirst digests) → LeavesOnly new (IsFirst digests)
-first_elsewhere {digests} at count old new fits apart changes leaves =
-    within_leaves changes (sized_leaves leaves) (λ before after (had : (length before ≡ size old) × IsFirst digests before) torn.
+first_elsewhere {digests} at count old new fits apart changes leaves = within_leaves changes (sized_leaves leaves) (λ before after (had : (length before ≡ size old) × IsFirst digests before) torn.
     let room : slot_at 1 + 4096 ≤ length before = omega arith in
     record {
       first = other_records 0 at count before after (omega arith) room apart torn ∙ had.1.first;

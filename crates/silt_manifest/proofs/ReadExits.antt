@@ -1,7 +1,7 @@
 -- What a read of the slots means for the shown bytes.
 use Rattle.silt_manifest.proofs.Common.{◌≡◌, ℕ, ◌+◌, ◌%◌, true, false, not, nat_lt, List, slice_index, Option, Some, None, Err, refl, sym, ap, subst, ◌∙◌, inl, inr, arith, cases_Bool, Content}
-use Rattle.silt_manifest.proofs.Common.{Shows, LeavesOnly, Rests, header_of, version_of, Shape, Version, rests_leaves, is_open, record_of, IsNotRead, record_behind, is_slot_open, is_sound_record}
-use Rattle.silt_manifest.proofs.Common.{open_record, current_manifest, slot_of, where_found, IsCurrentIn, ManifestState, with_current, SlotRecord, Slot}
+use Rattle.silt_manifest.proofs.Common.{Shows, header_of, version_of, Shape, Version, is_open, IsNotRead, record_behind, is_slot_open, is_sound_record, open_record, current_manifest, slot_of}
+use Rattle.silt_manifest.proofs.Common.{where_found, IsCurrentIn, ManifestState, with_current, SlotRecord, Slot}
 use Rattle.std.proofs.Common.{Bool, if◌then◌else◌, IsTrue, ok_or, IfOk, IfErr}
 use Rattle.silt_manifest.specs.Faults.{IsDamaged, IsSlotRefused, IsUnsound}
 use Rattle.silt_manifest.specs.Current.{HasSlot, record_found}
@@ -22,16 +22,12 @@ ReadsSlot content slot bytes = IsTrue content.honest → bytes ≡ slot_of conte
 -- a slot that is closed, or whose record is sound
 pub reads_held : (content : Content) (s : Shape) (v : Version) (slot : ℕ) (bytes : List ℕ) (held : Option SlotRecord)
     → ReadsSlot content slot bytes → record_behind bytes ≡ held → is_sound_record s v slot held ≡ true → Shows content (HasSlot s v slot held)
-reads_held content s v slot bytes held reads is sound = record {
-  holds = λ honest. record { held = ap record_behind (sym (reads honest)) ∙ is; sound = sound };
-}
+reads_held content s v slot bytes held reads is sound = grind arith
 
 -- a slot that is open, and whose record is not sound
 pub reads_damage : (content : Content) (s : Shape) (v : Version) (slot : ℕ) (bytes : List ℕ) (damage : Damage) → ReadsSlot content slot bytes
     → damage ≡ Slot slot → is_sound_record s v slot (record_behind bytes) ≡ false → Shows content (IsUnsound s v slot damage)
-reads_damage content s v slot bytes damage reads place unsound = record {
-  holds = λ honest. record { place = place; unsound = ap (λ held. is_sound_record s v slot (record_behind held)) (sym (reads honest)) ∙ unsound };
-}
+reads_damage content s v slot bytes damage reads place unsound = grind arith
 
 -- the version is that of the header that is shown
 abbrev pub HasVersion : Content → Version → Type 0
@@ -73,17 +69,11 @@ second_refused content s v W first (Device fault) is has refused = refused
 pub none_refused : (content : Content) (s : Shape) (v : Version) (first second : Option SlotRecord) (made : Option ManifestState)
     → HasVersion content v → Shows content (HasSlot s v 0 first) → Shows content (HasSlot s v 1 second) → made ≡ manifest_of s first second → made ≡ None → Shows content (IsDamaged s NoSlot)
 none_refused content s v None None made version one two is none = record { holds = λ honest. no_slot s v content.shown (sym (version honest)) (one.holds honest) (two.holds honest) }
-none_refused content s v None (Some b) made version one two is none = absurd (cc)
-none_refused content s v (Some a) None made version one two is none = absurd (cc)
-none_refused content s v (Some a) (Some b) made version one two is none = absurd (cc)
+none_refused content s v first second made version one two is none = grind arith
 
 -- a slot that holds nothing is closed
 holds_closed : (bytes : List ℕ) → record_behind bytes ≡ None → is_open (slice_index bytes 0) ≡ false
-holds_closed bytes holds =
-    elim (cases_Bool (is_open (slice_index bytes 0))) [
-      | inl opened ↦ let some : record_behind bytes ≡ Some (record_of bytes) = opened_record bytes opened in absurd (cc)
-      | inr closed ↦ closed
-    ]
+holds_closed bytes holds = elim (cases_Bool (is_open (slice_index bytes 0))) [ inl opened ↦ absurd (cc (opened_record bytes opened)) | inr closed ↦ closed ]
 
 -- the record of the one slot is current, if the commit byte of the other is as given
 current_so : (s : Shape) (v : Version) (r o : ℕ) (b : SlotRecord) (spare_closed : Bool) (image : List ℕ) → r + o ≡ 1 → HasSlot s v r (Some b) image
@@ -91,11 +81,7 @@ current_so : (s : Shape) (v : Version) (r o : ℕ) (b : SlotRecord) (spare_close
 current_so s v r o b spare_closed image slots has is_current spare =
     let own : b.body.generation % 2 ≡ r = (sound_parts s r b.body (sound_body s v r b has.sound)).slot_is in
     let other : (b.body.generation + 1) % 2 ≡ o = omega arith in
-    record {
-      current = is_current;
-      stands = ap (open_record image) own ∙ has.held;
-      spare = ap (is_slot_open image) other ∙ spare;
-    }
+    record { current = is_current; stands = cc (has.held); spare = cc }
 
 -- the manifest of two slots is what an image has
 current_in_image : (s : Shape) (v : Version) (first second : Option SlotRecord) (m : ManifestState) (image : List ℕ)
@@ -114,15 +100,13 @@ current_in_image s v (Some a) (Some b) m image version one two is =
       | inl newer ↦
           let chosen : (if nat_lt a.body.generation b.body.generation then with_current s b false else with_current s a false) ≡ with_current s b false = rw newer refl in
           let same : with_current s b false ≡ m = cc in
-          subst (λ state. IsCurrentIn state image) same
-          (current_so s v 1 0 b false image refl two
-          (ap where_found (found_at s v image (Some a) (Some b) version one.held two.held ∙ newer_second s v a b one.sound two.sound newer)) (holds_open (slot_of image 0) a one.held))
+          subst (λ state. IsCurrentIn state image) same (current_so s v 1 0 b false image refl two (ap where_found (found_at s v image (Some a) (Some b) version
+          one.held two.held ∙ newer_second s v a b one.sound two.sound newer)) (holds_open (slot_of image 0) a one.held))
       | inr older ↦
           let chosen : (if nat_lt a.body.generation b.body.generation then with_current s b false else with_current s a false) ≡ with_current s a false = rw older refl in
           let same : with_current s a false ≡ m = cc in
-          subst (λ state. IsCurrentIn state image) same
-          (current_so s v 0 1 a false image refl one
-          (ap where_found (found_at s v image (Some a) (Some b) version one.held two.held ∙ newer_first s v a b one.sound two.sound older)) (holds_open (slot_of image 1) b two.held))
+          subst (λ state. IsCurrentIn state image) same (current_so s v 0 1 a false image refl one (ap where_found (found_at s v image (Some a) (Some b) version
+          one.held two.held ∙ newer_first s v a b one.sound two.sound older)) (holds_open (slot_of image 1) b two.held))
     ]
 
 -- the manifest of the slots is current in what is shown
@@ -130,10 +114,6 @@ pub slots_are_current : (content : Content) (s : Shape) (v : Version) (first sec
     → HasVersion content v → Shows content (HasSlot s v 0 first) → Shows content (HasSlot s v 1 second) → made ≡ manifest_of s first second → made ≡ Some m → Shows content (IsCurrentIn m)
 slots_are_current content s v first second made m version one two is some =
     record { holds = λ honest. current_in_image s v first second m content.shown (sym (version honest)) (one.holds honest) (two.holds honest) (sym is ∙ some) }
-
--- if nothing is pending, also in each possible crash image
-pub rest_is_current : (content : Content) (m : ManifestState) → Shows content (IsCurrentIn m) → Rests content → LeavesOnly content (IsCurrentIn m)
-rest_is_current content m shows rests = rests_leaves rests shows
 
 -- what was found, or else the refusal
 pub where_some : {X E : Type 0} (o : Option X) (e : E) (P : X → Type 0) → ((x : X) → o ≡ Some x → P x) → IfOk (ok_or o e) P

@@ -1,23 +1,18 @@
 -- What is written of a body is what is read.
-use Rattle.silt_manifest.proofs.Common.{◌≡◌, ℕ, suc, ◌+◌, ◌-◌, ◌*◌, ◌%◌, ◌^◌, ◌<◌, ◌≤◌, true, nat_lt, List, [], ◌∷◌, ◌++◌, length, map, take, drop, replicate, refl, sym, ap, ◌∙◌, arith}
-use Rattle.silt_manifest.proofs.Common.{append_assoc, append-nil, length-append, range_with_len, and_parts, ltb-true, big_bytes, number_at, id_bytes, ids_bytes, ids_at, FitsSlot, body_bytes}
-use Rattle.silt_manifest.proofs.Common.{long_bit, Body}
+use Rattle.silt_manifest.proofs.Common.{◌≡◌, ℕ, suc, ◌+◌, ◌-◌, ◌*◌, ◌%◌, ◌^◌, ◌<◌, ◌≤◌, true, nat_lt, List, [], ◌∷◌, ◌++◌, length, map, replicate, refl, sym, ap, ◌∙◌, arith, append_assoc}
+use Rattle.silt_manifest.proofs.Common.{append-nil, length-append, range_with_len, and_parts, ltb-true, big_bytes, number_at, id_bytes, ids_bytes, ids_at, FitsSlot, body_bytes, long_bit, Body}
 use Rattle.std.proofs.Common.{zero}
 use Rattle.std.specs.List.{list_all}
 use Rattle.std.proofs.lemmas.List.{drop_at, take_at, length-replicate}
-use Rattle.byteorder.specs.Endian.{big_number}
 use Rattle.byteorder.specs.Numbers.{big_number-reads_back, length-bytes_high_first}
 use Rattle.silt_manifest.specs.Body.{BodyLaw}
 
 -- a number behind some bytes
 pub number_behind : (n i x : ℕ) (pre post : List ℕ) → length pre ≡ i → x < 256 ^ n → number_at n i (pre ++ (big_bytes n x ++ post)) ≡ x
 number_behind n i x pre post e fits =
-    let there : drop i (pre ++ (big_bytes n x ++ post)) ≡ big_bytes n x ++ post = drop_at pre (big_bytes n x ++ post) i e in
     let size : i + n - i ≡ n = omega arith in
     let long : length (big_bytes n x) ≡ n = length-bytes_high_first n x in
-    let cut : take (i + n - i) (drop i (pre ++ (big_bytes n x ++ post))) ≡ big_bytes n x =
-    ap (take (i + n - i)) there ∙ ap (λ (k : ℕ). take k (big_bytes n x ++ post)) size ∙ take_at (big_bytes n x) post n long in
-    ap (big_number n) (cut ∙ sym (append-nil (big_bytes n x))) ∙ big_number-reads_back n x [] fits
+    cc (drop_at pre (big_bytes n x ++ post) i e, take_at (big_bytes n x) post n long, append-nil (big_bytes n x), big_number-reads_back n x [] fits)
 
 -- the same numbers, one place on
 pub range_on : {X : Type 0} (f : ℕ → X) (a n : ℕ) → map f (range_with_len (a + 1) n) ≡ map (λ k. f (k + 1)) (range_with_len a n)
@@ -39,31 +34,22 @@ ids_behind (n ∷ ns) i pre post e small =
     let one : bytes ≡ pre ++ (big_bytes 4 n ++ (id_bytes ns ++ post)) = ap (λ s. pre ++ s) (append_assoc (big_bytes 4 n) (id_bytes ns) post) in
     let two : bytes ≡ (pre ++ big_bytes 4 n) ++ (id_bytes ns ++ post) = one ∙ sym (append_assoc pre (big_bytes 4 n) (id_bytes ns ++ post)) in
     let place : i + 4 * 0 ≡ i = omega arith in
-    let head : number_at 4 (i + 4 * 0) bytes ≡ n =
-    ap (λ (k : ℕ). number_at 4 k bytes) place ∙ ap (number_at 4 i) one ∙ number_behind 4 i n pre (id_bytes ns ++ post) e (ltb-true n (256 ^ 4) parts.0) in
+    let head : number_at 4 (i + 4 * 0) bytes ≡ n = cc (number_behind 4 i n pre (id_bytes ns ++ post) e (ltb-true n (256 ^ 4) parts.0)) in
     let moved : (k : ℕ) → number_at 4 (i + 4 * (k + 1)) bytes ≡ number_at 4 (i + 4 + 4 * k) ((pre ++ big_bytes 4 n) ++ (id_bytes ns ++ post)) =
-    λ k. let same : i + 4 * (k + 1) ≡ i + 4 + 4 * k = omega arith in ap (λ (j : ℕ). number_at 4 j bytes) same ∙ ap (number_at 4 (i + 4 + 4 * k)) two in
-    let rest = ids_behind ns (i + 4) (pre ++ big_bytes 4 n) post (length-append pre (big_bytes 4 n) ∙ ap (λ (l : ℕ). l + 4) e) parts.1 in
-    let tail : map (λ k. number_at 4 (i + 4 * k) bytes) (range_with_len 1 (length ns)) ≡ ns =
-    range_on (λ k. number_at 4 (i + 4 * k) bytes) 0 (length ns)
-    ∙ map_same _ _ (range_with_len 0 (length ns)) moved
-    ∙ rest in
-    cc
+    λ k. let same : i + 4 * (k + 1) ≡ i + 4 + 4 * k = omega arith in cc in
+    let rest = ids_behind ns (i + 4) (pre ++ big_bytes 4 n) post (omega (arith, length-append pre (big_bytes 4 n))) parts.1 in
+    cc (range_on (λ k. number_at 4 (i + 4 * k) bytes) 0 (length ns), map_same _ _ (range_with_len 0 (length ns)) moved)
 
 -- as many as the count
 pub ids_at_behind : (room : ℕ) (ns : List ℕ) (i : ℕ) (pre post : List ℕ) → length pre ≡ i → length ns < 256 ^ 4
     → list_all (λ n. nat_lt n (256 ^ 4)) ns ≡ true → ids_at i (pre ++ (ids_bytes room ns ++ post)) ≡ ns
 ids_at_behind room ns i pre post e short small =
     let pad = replicate (4 * (room - length ns)) 0 in
-    let bytes = pre ++ (ids_bytes room ns ++ post) in
     let flat : ids_bytes room ns ++ post ≡ big_bytes 4 (length ns) ++ (id_bytes ns ++ (pad ++ post)) =
     append_assoc (big_bytes 4 (length ns) ++ id_bytes ns) pad post ∙ append_assoc (big_bytes 4 (length ns)) (id_bytes ns) (pad ++ post) in
-    let one : bytes ≡ pre ++ (big_bytes 4 (length ns) ++ (id_bytes ns ++ (pad ++ post))) = ap (λ s. pre ++ s) flat in
-    let two : bytes ≡ (pre ++ big_bytes 4 (length ns)) ++ (id_bytes ns ++ (pad ++ post)) = one ∙ sym (append_assoc pre (big_bytes 4 (length ns)) (id_bytes ns ++ (pad ++ post))) in
-    let count : number_at 4 i bytes ≡ length ns = ap (number_at 4 i) one ∙ number_behind 4 i (length ns) pre (id_bytes ns ++ (pad ++ post)) e short in
-    ap (λ (n : ℕ). map (λ k. number_at 4 (i + 4 + 4 * k) bytes) (range_with_len 0 n)) count
-    ∙ ap (λ s. map (λ k. number_at 4 (i + 4 + 4 * k) s) (range_with_len 0 (length ns))) two
-    ∙ ids_behind ns (i + 4) (pre ++ big_bytes 4 (length ns)) (pad ++ post) (length-append pre (big_bytes 4 (length ns)) ∙ ap (λ (l : ℕ). l + 4) e) small
+    let count = number_behind 4 i (length ns) pre (id_bytes ns ++ (pad ++ post)) e short in
+    let all = ids_behind ns (i + 4) (pre ++ big_bytes 4 (length ns)) (pad ++ post) (omega (arith, length-append pre (big_bytes 4 (length ns)))) small in
+    rw (flat, count, ← append_assoc pre (big_bytes 4 (length ns)) (id_bytes ns ++ (pad ++ post))) all
 
 -- four bytes for each number
 pub length_id_bytes : (ns : List ℕ) → length (id_bytes ns) ≡ 4 * length ns
@@ -72,12 +58,7 @@ length_id_bytes (n ∷ ns) = let rest = length_id_bytes ns in omega arith
 
 -- the room is filled
 pub length_ids_bytes : (room : ℕ) (ns : List ℕ) → length ns ≤ room → length (ids_bytes room ns) ≡ 4 + 4 * room
-length_ids_bytes room ns fits =
-    let one = length-append (big_bytes 4 (length ns) ++ id_bytes ns) (replicate (4 * (room - length ns)) 0) in
-    let two = length-append (big_bytes 4 (length ns)) (id_bytes ns) in
-    let three = length_id_bytes ns in
-    let four : length {A = ℕ} (replicate (4 * (room - length ns)) 0) ≡ 4 * (room - length ns) = length-replicate (4 * (room - length ns)) 0 in
-    omega (arith, one, two, three, four)
+length_ids_bytes room ns fits = grind (arith, length-append, length_id_bytes, length-replicate)
 
 -- parts that are joined from the left
 regroup : (a b c d e : List ℕ) → (((a ++ b) ++ c) ++ d) ++ e ≡ a ++ (b ++ (c ++ (d ++ e)))
@@ -114,36 +95,23 @@ body_law b commit rest fits =
     let S = big_bytes 4 b.sorted in
     let C = big_bytes 4 b.sorted_count in
     let whole = slot_parts commit b rest in
-    let to_hashed : front commit b ++ parts_of b rest ≡ (front commit b ++ F) ++ (H ++ (S ++ (C ++ rest))) = sym (append_assoc (front commit b) F (H ++ (S ++ (C ++ rest)))) in
-    let to_sorted : (front commit b ++ F) ++ (H ++ (S ++ (C ++ rest))) ≡ ((front commit b ++ F) ++ H) ++ (S ++ (C ++ rest)) = sym (append_assoc (front commit b ++ F) H (S ++ (C ++ rest))) in
-    let to_count : ((front commit b ++ F) ++ H) ++ (S ++ (C ++ rest)) ≡ (((front commit b ++ F) ++ H) ++ S) ++ (C ++ rest) = sym (append_assoc ((front commit b ++ F) ++ H) S (C ++ rest)) in
+    let to_hashed = append_assoc (front commit b) F (H ++ (S ++ (C ++ rest))) in
+    let to_sorted = append_assoc (front commit b ++ F) H (S ++ (C ++ rest)) in
+    let to_count = append_assoc ((front commit b ++ F) ++ H) S (C ++ rest) in
     let len_f : length (front commit b ++ F) ≡ 45 = omega (arith, length-append (front commit b) F, length_ids_bytes 7 b.frozen fits.frozen_count) in
     let len_h : length ((front commit b ++ F) ++ H) ≡ 113 = omega (arith, length-append (front commit b ++ F) H, length_ids_bytes 16 b.hashed fits.hashed_count, len_f) in
-    let len_s : length (((front commit b ++ F) ++ H) ++ S) ≡ 117 = length-append ((front commit b ++ F) ++ H) S ∙ ap (λ (n : ℕ). n + 4) len_h in
-    let field = generation_field b commit rest fits in
-    let generation : number_at 8 1 slot % long_bit ≡ b.generation = ap (λ (n : ℕ). n % long_bit) field ∙ without_bit b.generation fits.generation in
+    let len_s : length (((front commit b ++ F) ++ H) ++ S) ≡ 117 = omega (arith, length-append ((front commit b ++ F) ++ H) S) in
+    let generation : number_at 8 1 slot % long_bit ≡ b.generation = cc (generation_field b commit rest fits, without_bit b.generation fits.generation) in
     let active : number_at 4 9 slot ≡ b.active = big_number-reads_back 4 b.active [] fits.active in
-    let frozen : ids_at 13 slot ≡ b.frozen = ap (ids_at 13) whole ∙ ids_at_behind 7 b.frozen 13 (front commit b) (H ++ (S ++ (C ++ rest))) refl (let h = fits.frozen_count in omega arith) fits.frozen in
+    let frozen : ids_at 13 slot ≡ b.frozen = cc (ids_at_behind 7 b.frozen 13 (front commit b) (H ++ (S ++ (C ++ rest))) refl (let h = fits.frozen_count in omega arith) fits.frozen) in
     let hashed : ids_at 45 slot ≡ b.hashed = cc (ids_at_behind 16 b.hashed 45 (front commit b ++ F) (S ++ (C ++ rest)) len_f (let h = fits.hashed_count in omega arith) fits.hashed) in
-    let sorted : number_at 4 113 slot ≡ b.sorted = ap (number_at 4 113) (whole ∙ to_hashed ∙ to_sorted) ∙ number_behind 4 113 b.sorted ((front commit b ++ F) ++ H) (C ++ rest) len_h fits.sorted in
+    let sorted : number_at 4 113 slot ≡ b.sorted = cc (number_behind 4 113 b.sorted ((front commit b ++ F) ++ H) (C ++ rest) len_h fits.sorted) in
     let count : number_at 4 117 slot ≡ b.sorted_count = cc (number_behind 4 117 b.sorted_count (((front commit b ++ F) ++ H) ++ S) rest len_s fits.sorted_count) in
-    record_same generation active frozen hashed sorted count
-  where
-    record_same : {a c e f : ℕ} {xs ys : List ℕ} → a ≡ b.generation → c ≡ b.active → xs ≡ b.frozen → ys ≡ b.hashed → e ≡ b.sorted → f ≡ b.sorted_count
-        → (let x : Body = record { generation = a; active = c; frozen = xs; hashed = ys; sorted = e; sorted_count = f } in x ≡ b)
-    record_same p q r s t u = rw (p, q, r, s, t, u) refl
+    rw (generation, active, frozen, hashed, sorted, count) refl
 
 -- 120 bytes
-pub length_body_bytes : (b : Body) → length b.frozen ≤ 7 → length b.hashed ≤ 16 → length (body_bytes b) ≡ 120
-length_body_bytes b frozen hashed =
-    let F = ids_bytes 7 b.frozen in
-    let H = ids_bytes 16 b.hashed in
-    let first = big_bytes 8 (b.generation + long_bit) ++ big_bytes 4 b.active in
-    let one = length-append first F in
-    let two = length-append (first ++ F) H in
-    let three = length-append ((first ++ F) ++ H) (big_bytes 4 b.sorted) in
-    let four = length-append (((first ++ F) ++ H) ++ big_bytes 4 b.sorted) (big_bytes 4 b.sorted_count) in
-    omega (arith, one, two, three, four, length_ids_bytes 7 b.frozen frozen, length_ids_bytes 16 b.hashed hashed)
+length_body_bytes : (b : Body) → length b.frozen ≤ 7 → length b.hashed ≤ 16 → length (body_bytes b) ≡ 120
+length_body_bytes b frozen hashed = grind (arith, length-append, length_ids_bytes)
 
 -- the same if its numbers fit
 pub fitting_length : (b : Body) → FitsSlot b → length (body_bytes b) ≡ 120

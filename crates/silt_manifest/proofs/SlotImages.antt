@@ -1,6 +1,6 @@
 -- What a change in one slot leaves of the slots.
-use Rattle.silt_manifest.proofs.Common.{◌≡◌, ℕ, ◌+◌, ◌-◌, ◌<◌, ◌≤◌, ◌⊎◌, inl, inr, true, false, List, [], ◌∷◌, length, drop, get_or, slice_range, slice_index, Some, None, refl, sym, ap, ◌∙◌, arith}
-use Rattle.silt_manifest.proofs.Common.{cases_Bool, cases_eq, nat_tests, Torn, splice, header_of, version_of, slot_at, torn_slice_before, torn_slice_after, torn_splice, is_open, record_of, slot_of}
+use Rattle.silt_manifest.proofs.Common.{◌≡◌, ℕ, ◌+◌, ◌-◌, ◌<◌, ◌≤◌, ◌⊎◌, inl, inr, true, false, List, [], ◌∷◌, length, get_or, slice_range, slice_index, Some, None, refl, ap, arith, cases_Bool}
+use Rattle.silt_manifest.proofs.Common.{cases_eq, nat_tests, Torn, splice, header_of, version_of, slot_at, torn_slice_before, torn_slice_after, torn_splice, is_open, record_of, slot_of}
 use Rattle.silt_manifest.proofs.Common.{is_slot_open, open_record}
 use Rattle.std.proofs.lemmas.List.{drop_more}
 use Rattle.silt_disk.proofs.Images.{splice_byte}
@@ -9,10 +9,9 @@ use Rattle.silt_manifest.specs.Current.{record_behind}
 -- a slot is its commit byte and the bytes behind it
 pub slot_parts : (image : List ℕ) (slot : ℕ) → slot_at slot + 461 ≤ length image → slot_of image slot ≡ get_or image (slot_at slot) 0 ∷ slice_range image (slot_at slot + 1) (slot_at slot + 461)
 slot_parts image slot fits =
-    let cut : drop (slot_at slot) image ≡ get_or image (slot_at slot) 0 ∷ drop (slot_at slot + 1) image = drop_more image (slot_at slot) 0 (omega arith) in
     let long : slot_at slot + 461 - slot_at slot ≡ 461 = omega arith in
     let rest : slot_at slot + 461 - (slot_at slot + 1) ≡ 460 = omega arith in
-    cc
+    cc (drop_more image (slot_at slot) 0 (omega arith))
 
 -- its first byte is the commit byte
 pub commit_of : (image : List ℕ) (slot : ℕ) → slot_at slot + 461 ≤ length image → slice_index (slot_of image slot) 0 ≡ get_or image (slot_at slot) 0
@@ -44,12 +43,7 @@ slot_same at count slot before after torn fits apart =
 -- a change in the one slot leaves the other as it is
 pub other_same : (r o at count : ℕ) (before after : List ℕ) → r + o ≡ 1 → slot_at o ≤ at → at + count ≤ slot_at o + 4096
     → slot_at 1 + 4096 ≤ length before → Torn at count before after → slot_of after r ≡ slot_of before r
-other_same r o at count before after slots low high fits torn =
-    slot_same at count r before after torn (omega arith)
-    (elim (cases_eq r 0) [
-      | inl first ↦ inr (omega arith)
-      | inr second ↦ inl (let one : r ≡ 1 = omega arith in omega arith)
-    ])
+other_same r o at count before after slots low high fits torn = slot_same at count r before after torn (omega arith) (search (arith, cases_eq))
 
 -- a torn commit byte of an open slot: the slot is closed now, or as it was
 pub commit_torn : (slot : ℕ) (before after : List ℕ) → slot_at slot + 461 ≤ length before → Torn (slot_at slot) 1 before after
@@ -58,20 +52,12 @@ commit_torn slot before after fits torn opened =
     let fits_after : slot_at slot + 461 ≤ length after = omega (arith, torn.size) in
     let behind : slice_range after (slot_at slot + 1) (slot_at slot + 461) ≡ slice_range before (slot_at slot + 1) (slot_at slot + 461) =
     torn_slice_after (slot_at slot) 1 before after torn (slot_at slot + 1) (slot_at slot + 461) (omega arith) fits in
-    let was : get_or before (slot_at slot) 0 ≡ 167 = sym (commit_of before slot fits) ∙ open_commit _ opened in
-    elim (cases_Bool (is_slot_open after slot)) [
-      | inl still ↦
-          let is : get_or after (slot_at slot) 0 ≡ 167 = sym (commit_of after slot fits_after) ∙ open_commit _ still in
-          let same : slot_of after slot ≡ slot_of before slot =
-          cc (slot_parts after slot fits_after, slot_parts before slot fits) in
-          inr (ap record_behind same)
-      | inr closed ↦ inl (closed_record (slot_of after slot) closed)
-    ]
+    search (arith, commit_of, open_commit, cases_Bool, slot_parts, closed_record)
 
 -- a commit byte that is not in the range stays
-pub commit_stays : (at count slot : ℕ) (before after : List ℕ) → slot_at slot < at → slot_at slot + 461 ≤ length before → Torn at count before after → is_slot_open after slot ≡ is_slot_open before slot
-commit_stays at count slot before after behind fits torn =
-    ap is_open (commit_of after slot (omega (arith, torn.size)) ∙ torn.before (slot_at slot) behind ∙ sym (commit_of before slot fits))
+pub commit_stays : (at count slot : ℕ) (before after : List ℕ) → slot_at slot < at → slot_at slot + 461 ≤ length before → Torn at count before after
+    → is_slot_open after slot ≡ is_slot_open before slot
+commit_stays at count slot before after behind fits torn = grind (arith, commit_of, torn.before)
 
 -- the commit byte is the byte that was written there
 pub commit_written : (commit slot : ℕ) (before : List ℕ) → slot_at slot + 461 ≤ length before → slice_index (slot_of (splice (slot_at slot) (commit ∷ []) before) slot) 0 ≡ commit

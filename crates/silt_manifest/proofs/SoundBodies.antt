@@ -1,7 +1,8 @@
 -- What a body that is well formed has, and a record that is sound.
-use Rattle.silt_manifest.proofs.Common.{◌≡◌, ℕ, ◌%◌, ◌^◌, ◌<◌, ◌≤◌, ◌⊎◌, inl, inr, true, false, nat_lt, nat_le, List, [], ◌∷◌, length, Some, refl, ap, ◌∙◌, arith, cases_Bool, and_parts, ltb-true}
-use Rattle.silt_manifest.proofs.Common.{nat_tests, Shape, InLimits, Version, FitsSlot, is_well_formed, is_sound_record, Body, SlotRecord}
-use Rattle.std.proofs.Common.{◌==◌, is_some}
+use Rattle.std.proofs.lemmas.Bool.{eqb-true, leb-true, ltb-true}
+use Rattle.silt_manifest.proofs.Common.{◌≡◌, ℕ, ◌%◌, ◌^◌, ◌<◌, ◌≤◌, ◌⊎◌, true, false, List, [], ◌∷◌, length, Some, refl, ap, ◌∙◌, arith, cases_Bool, and_parts, Shape, InLimits, Version, FitsSlot}
+use Rattle.silt_manifest.proofs.Common.{is_well_formed, is_sound_record, Body, SlotRecord}
+use Rattle.std.proofs.Common.{is_some}
 use Rattle.silt_disk.specs.declared.header.Version.TheVariants.{One, Two}
 use Rattle.silt_manifest.specs.Body.{all_below}
 use Rattle.silt_manifest.specs.Current.{has_due_digests}
@@ -18,18 +19,6 @@ pub record SoundParts (s : Shape) (slot : ℕ) (b : Body) : Type 0 where
   pub sorted : b.sorted < 2
   pub sorted_count : b.sorted_count ≤ s.sorted_capacity
 
--- a test of order that succeeds
-less : (a b : ℕ) → nat_lt a b ≡ true → a < b
-less a b is = ltb-true a b is
-
--- a test of order that succeeds
-at_most : (a b : ℕ) → nat_le a b ≡ true → a ≤ b
-at_most a b is = grind (arith, nat_tests)
-
--- a test of equality that succeeds
-equal : (a b : ℕ) → (a == b) ≡ true → a ≡ b
-equal a b is = grind (arith, nat_tests)
-
 -- the parts of the test
 pub sound_parts : (s : Shape) (slot : ℕ) (b : Body) → is_well_formed s slot b ≡ true → SoundParts s slot b
 sound_parts s slot b sound =
@@ -45,32 +34,25 @@ sound_parts s slot b sound =
     let h1 = and_parts _ _ p3.1 in
     let h2 = and_parts _ _ h1.0 in
     record {
-      generation = less _ _ p5.0;
-      slot_is = equal _ _ p5.1;
-      frozen_count = less _ _ l4.0;
-      active = less _ _ l4.1;
+      generation = ltb-true _ _ p5.0;
+      slot_is = eqb-true _ _ p5.1;
+      frozen_count = ltb-true _ _ l4.0;
+      active = ltb-true _ _ l4.1;
       frozen = l3.1;
-      hashed_count = at_most _ _ h2.0;
+      hashed_count = leb-true _ _ h2.0;
       hashed = h2.1;
-      sorted = less _ _ p2.1;
-      sorted_count = at_most _ _ p1.1;
+      sorted = ltb-true _ _ p2.1;
+      sorted_count = leb-true _ _ p1.1;
     }
 
 -- a body with more ids than regions is not well formed
 pub too_many_ids : (s : Shape) (slot : ℕ) (b : Body) → (s.logs ≤ length b.frozen) ⊎ (s.hashes < length b.hashed) → is_well_formed s slot b ≡ false
-too_many_ids s slot b many =
-    elim (cases_Bool (is_well_formed s slot b)) [
-      | inl sound ↦ let parts = sound_parts s slot b sound in elim many [ inl logs ↦ absurd (omega (arith, parts.frozen_count)) | inr hashes ↦ absurd (omega (arith, parts.hashed_count)) ]
-      | inr unsound ↦ unsound
-    ]
+too_many_ids s slot b many = search (arith, cases_Bool, sound_parts)
 
 -- numbers below a bound are below a greater one
 all_below_more : (low high : ℕ) (ids : List ℕ) → low ≤ high → all_below low ids ≡ true → all_below high ids ≡ true
 all_below_more low high [] more below = refl
-all_below_more low high (id ∷ ids) more below =
-    let parts = and_parts (nat_lt id low) (all_below low ids) below in
-    let first : nat_lt id high ≡ true = grind (arith, nat_tests) in
-    rw (first, (all_below_more low high ids more parts.1)) refl
+all_below_more low high (id ∷ ids) more below = grind (arith, all_below_more low high ids more, and_parts)
 
 -- within the limits its numbers fit the fields of a slot
 pub fits_slot : (s : Shape) (slot : ℕ) (b : Body) → InLimits s → is_well_formed s slot b ≡ true → FitsSlot b
@@ -101,11 +83,7 @@ without_digests s version slot found lacks = rw lacks refl
 
 -- nor is one whose body is not well formed
 pub without_body : (s : Shape) (version : Version) (slot : ℕ) (found : SlotRecord) → is_well_formed s slot found.body ≡ false → is_sound_record s version slot (Some found) ≡ false
-without_body s version slot found unsound =
-    elim (cases_Bool (has_due_digests version found.digests)) [
-      | inl due ↦ rw (due, unsound) refl
-      | inr lacks ↦ rw lacks refl
-    ]
+without_body s version slot found unsound = grind (arith, cases_Bool)
 
 -- a record with a well-formed body and the digests that are due is sound
 pub with_both : (s : Shape) (version : Version) (slot : ℕ) (found : SlotRecord) → has_due_digests version found.digests ≡ true

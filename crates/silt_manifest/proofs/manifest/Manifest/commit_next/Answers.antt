@@ -5,8 +5,7 @@ use Rattle.silt_manifest.proofs.manifest.Manifest.commit_next.Goals as goal
 
 pub returns-in_err-write_commit-clause-wrote : goal.returns-in_err-write_commit-clause-wrote
 returns-in_err-write_commit-clause-wrote g c =
-    wrote_err c.in_err-write_commit.was c.from_residual.ensures.1 (omega arith) (omega arith)
-    (wrote_at (ap slot_at c.spare_slot.ensures.value) refl c.write_commit.ensures.wrote)
+    wrote_err c.in_err-write_commit.was c.from_residual.ensures.1 (omega arith) (omega arith) (wrote_at (ap slot_at c.spare_slot.ensures.value) refl c.write_commit.ensures.wrote)
 
 pub returns-in_err-write_commit-clause-each : goal.returns-in_err-write_commit-clause-each
 returns-in_err-write_commit-clause-each g c =

@@ -52,19 +52,14 @@ returns g c =
     let ready = all_prepared m c.closing_place.result at c.record_bytes.result next c.args.digests _ _ _ c.requires.size c.requires.current place.value
     behind long bytes.value zero.written zero.rests last.written last.rests in
     record {
-      wrote = wrote_ok c.in_ok-write_record.was
-          (wrote_then c.in_ok-write_synced.was closed (wrote_wider _ _ (omega (arith, start)) (omega (arith, start)) c.write_record.ensures.wrote));
-      each = bytes_fail m c.closing_place.result at 460 _ _ _ c.requires.size c.requires.current place.value behind refl
-          zero.written zero.rests last.wrote.changes;
-      written = next_written m c.closing_place.result at c.record_bytes.result next c.args.digests _ _ _ place.value behind bytes.value
-          zero.written last.written;
+      wrote = wrote_ok c.in_ok-write_record.was (wrote_then c.in_ok-write_synced.was closed (wrote_wider _ _ (omega (arith, start)) (omega (arith, start)) c.write_record.ensures.wrote));
+      each = bytes_fail m c.closing_place.result at 460 _ _ _ c.requires.size c.requires.current place.value behind refl zero.written zero.rests last.wrote.changes;
+      written = next_written m c.closing_place.result at c.record_bytes.result next c.args.digests _ _ _ place.value behind bytes.value zero.written last.written;
       ready = record {
         next = next;
         digests = c.args.digests;
-        prepared = prepared_state m c.self.inside.geometry c.self.inside.current next c.self.inside.digests c.args.digests _
-            (sym (ap (λ state. state.shape) c.self.view_is)) (sym (ap (λ state. state.current) c.self.view_is))
-            (sym (ap (λ state. state.digests) c.self.view_is))
-            c.requires.next fits bytes.fits ready;
+        prepared = prepared_state m c.self.inside.geometry c.self.inside.current next c.self.inside.digests c.args.digests _ (sym (ap (λ state. state.shape) c.self.view_is))
+            (sym (ap (λ state. state.current) c.self.view_is)) (sym (ap (λ state. state.digests) c.self.view_is)) c.requires.next fits bytes.fits ready;
       };
       rests = search rules;
       state = search rules;
