@@ -1,5 +1,5 @@
 -- Disks in files, and the files of the system.
-use Rattle.std.proofs.Common.{◌≡◌, ℕ, false, List, IsTrue, refl, sym, ap, ◌∙◌, subst, inl, inr}
+use Rattle.std.proofs.Common.{◌≡◌, ℕ, false, List, IsTrue, refl, sym, ap, ◌∙◌, subst, arith}
 use Rattle.std.proofs.lemmas.List.{length-replicate}
 use Rattle.std.proofs.lemmas.Bool.{cases_Bool, cond-true, cond-false}
 use Rattle.std.specs.declared.fs.File.{File}
@@ -18,10 +18,7 @@ kept_none file len none = cond-false file.honest file (unpromised len) none
 
 -- the disk has its length
 pub kept_size : (file : Content) (len : ℕ) → HasLength file len → size (kept_content file len) ≡ len
-kept_size file len has = elim (cases_Bool file.honest) [
-  | inl honest ↦ ap size (kept_same file len honest) ∙ has honest
-  | inr not ↦ let zero : ℕ = 0 in ap size (kept_none file len not) ∙ length-replicate len zero
-]
+kept_size file len has = search (arith, cases_Bool, kept_same, kept_none, length-replicate)
 
 -- from a content that promises nothing, anything follows
 none : {A : Type 0} → IsTrue false → A

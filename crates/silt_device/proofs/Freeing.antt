@@ -1,15 +1,15 @@
 -- What a disk with several buffers has while one of them is brought in front, and while some are written out.
-use Rattle.std.proofs.Common.{◌≡◌, ◌==◌, ℕ, ◌+◌, ◌≤◌, ◌&&◌, ◌||◌, Bool, true, false, cond, leb, IsTrue, List, length, slice_range, suc, zero, refl, sym, ap, ◌∙◌, subst, inl, inr, arith}
+use Rattle.std.proofs.Common.{◌≡◌, ◌==◌, ℕ, ◌+◌, ◌≤◌, ◌||◌, Bool, true, false, cond, leb, IsTrue, List, length, slice_range, suc, zero, refl, sym, ap, ◌∙◌, subst, inl, inr, arith}
 use Rattle.std.proofs.lemmas.List.{ext_get_or}
 use Rattle.std.proofs.lemmas.Bool.{and_parts, cases_Bool, cond-true, cond-false}
 use Rattle.std.proofs.lemmas.Bool.Decides.{nat_tests}
 use Rattle.silt_disk.specs.Disk.{Content, Makes, Restarts, Settles, Stays, Tears, Writes, size}
 use Rattle.silt_disk.proofs.Costs.{made_both, none_made}
-use Rattle.silt_device.specs.Buffered.{BufferedBytes, Buffers, HasPlaces, image_over, length-image_over, byte_elsewhere, byte_there, waits, content_over}
-use Rattle.silt_device.specs.Buffered.{content_over_all, lie_apart, turned, brought, takes, emptied, freed, freed_times, owed, owed_all, owed_by_last, cleared}
-use Rattle.silt_device.specs.Buffered.{to_free, readied, appended, grown, waiting_after, BufferedState, PassesOn, LaidOverAll, has_all, holds}
-use Rattle.silt_device.proofs.Waiting.{or_swap, none_waits, none_over, stays_twice, stays_over, out_at, not_out_at, restarts_over, settles_over, size_over}
-use Rattle.silt_device.proofs.Waiting.{size_over_all, tears_over, writes_over, grown_places, grown_tears, grown_writes, laid_shows, laid_whole}
+use Rattle.silt_device.specs.Buffered.{BufferedBytes, Buffers, HasPlaces, image_over, length-image_over, byte_elsewhere, byte_there, waits, content_over, content_over_all, lie_apart, turned}
+use Rattle.silt_device.specs.Buffered.{brought, takes, emptied, freed, freed_times, owed, owed_all, owed_by_last, cleared, to_free, readied, appended, grown, waiting_after, BufferedState}
+use Rattle.silt_device.specs.Buffered.{PassesOn, LaidOverAll, has_all, holds}
+use Rattle.silt_device.proofs.Waiting.{or_swap, none_waits, none_over, stays_twice, stays_over, out_at, not_out_at, restarts_over, settles_over, size_over, size_over_all, tears_over, writes_over}
+use Rattle.silt_device.proofs.Waiting.{grown_places, grown_tears, grown_writes, laid_shows, laid_whole}
 
 -- ---- the order of buffers that lie apart
 
@@ -38,12 +38,7 @@ swapped_bytes g h image apart =
 
 -- so the content is the same
 pub swapped_stays : (g h : BufferedBytes) (inner : Content) → lie_apart h g ≡ true → Stays (content_over g (content_over h inner)) (content_over h (content_over g inner))
-swapped_stays g h inner apart = record {
-  honest = refl;
-  shown = λ honest. swapped_bytes g h inner.shown apart;
-  settled = λ honest. refl;
-  pending = λ honest place. or_swap (inner.pending place) (waits g place) (waits h place);
-}
+swapped_stays g h inner apart = search (arith, swapped_bytes, or_swap, inner.pending)
 
 -- of three, the last one comes in front
 pub turned_stays : (b : Buffers) (inner : Content) → lie_apart b.third b.first ≡ true → lie_apart b.third b.second ≡ true → Stays (content_over_all b inner) (content_over_all (turned b) inner)
@@ -51,28 +46,12 @@ turned_stays b inner far near = stays_twice _ _ _ (stays_over b.first _ _ (swapp
 
 -- nothing changes
 stays_same : (c : Content) → Stays c c
-stays_same c = record {
-  honest = refl;
-  shown = λ honest. refl;
-  settled = λ honest. refl;
-  pending = λ honest place. refl;
-}
+stays_same c = search arith
 
 -- what holds of the buffers in their order, and in any order that is as good, holds once the one is in front that takes some bytes
 pub brought_keeps : (P : Buffers → Type 0) (b : Buffers) (at count : ℕ) → P b → (lie_apart b.second b.first ≡ true → P (record { first = b.second; second = b.first; third = b.third }))
     → (lie_apart b.third b.first ≡ true → lie_apart b.third b.second ≡ true → P (turned b)) → P (brought b at count)
-brought_keeps P b at count as_is swaps turns = elim (cases_Bool (takes b.first at count)) [
-  | inl holds ↦ subst P (sym (cond-true _ _ _ holds)) as_is
-  | inr fails ↦ subst P (sym (cond-false _ _ _ fails)) (elim (cases_Bool (takes b.second at count && lie_apart b.second b.first)) [
-    | inl holds ↦ subst P (sym (cond-true _ _ _ holds)) (swaps (and_parts (takes b.second at count) _ holds).1)
-    | inr fails ↦ subst P (sym (cond-false _ _ _ fails)) (elim (cases_Bool (takes b.third at count && (lie_apart b.third b.first && lie_apart b.third b.second))) [
-      | inl holds ↦
-          let apart = and_parts _ (lie_apart b.third b.second) (and_parts (takes b.third at count) _ holds).1 in
-          subst P (sym (cond-true _ _ _ holds)) (turns apart.0 apart.1)
-      | inr fails ↦ subst P (sym (cond-false _ _ _ fails)) as_is
-    ])
-  ])
-]
+brought_keeps P b at count as_is swaps turns = search (arith, cases_Bool, cond-true, cond-false, and_parts)
 
 -- the content stays
 pub brought_stays : (b : Buffers) (at count : ℕ) (inner : Content) → Stays (content_over_all b inner) (content_over_all (brought b at count) inner)
@@ -102,14 +81,7 @@ last_stays b old new last = stays_over b.first _ _ (stays_over b.second _ _ last
 
 -- if it had none, nothing changes
 pub none_freed : (b : Buffers) (inner : Content) → (length b.third.bytes == 0) ≡ true → Stays (content_over_all b inner) (content_over_all (freed b) inner)
-none_freed b inner none =
-    let empty : length b.third.bytes ≡ 0 = grind (arith, nat_tests) in
-    freed_stays b inner inner (record {
-      honest = refl;
-      shown = λ honest. none_over (emptied b.third) inner.shown refl ∙ sym (none_over b.third inner.shown empty);
-      settled = λ honest. refl;
-      pending = λ honest place. ap (λ (p : Bool). inner.pending place || p) (none_waits (emptied b.third) place refl ∙ sym (none_waits b.third place empty));
-    })
+none_freed b inner none = search (arith, freed_stays, none_over, none_waits, inner.pending)
 
 -- one more time
 freed_more : (n : ℕ) (b : Buffers) → freed_times (n + 1) b ≡ freed (freed_times n b)
@@ -126,14 +98,11 @@ freed_zero : (b : Buffers) → freed_times 0 b ≡ b
 unfolding freed_times
 freed_zero b = refl
 
-owed_zero : (b : Buffers) → owed_by_last 0 b ≡ 0
-unfolding owed_by_last
-owed_zero b = refl
-
 -- the writes of those that were freed and of those that were not are the writes of all
 pub owed_in_all : (n : ℕ) (b : Buffers) → owed_by_last n b + owed_all (freed_times n b) ≡ owed_all b
-owed_in_all zero b = omega (arith, owed_zero b, ap owed_all (freed_zero b))
-owed_in_all (suc n) b = let more : suc n ≡ n + 1 = omega arith in rw more (omega (arith, owed_more n b, ap owed_all (freed_more n b), owed_in_all n b))
+unfolding freed_times owed_by_last
+owed_in_all zero b = omega arith
+owed_in_all (suc n) b = omega (arith, owed_in_all n b)
 
 -- The last buffer was freed so many times. Each time its bytes, if it had some, were written to the inner disk, and the content is as before.
 pub record Frees {D : Type 0} (content : D → Content) (writes_of syncs_of : D → ℕ) (n : ℕ) (old : Buffers) (old_inner : D) (new : Buffers) (inner : D) : Type 0 where
@@ -146,35 +115,19 @@ pub record Frees {D : Type 0} (content : D → Content) (writes_of syncs_of : D 
 module _ {D : Type 0} {content : D → Content} {writes_of syncs_of : D → ℕ} where
   -- not at all
   pub frees_none : (b : Buffers) (inner : D) → HasPlaces content inner b → Frees content writes_of syncs_of 0 b inner b inner
-  frees_none b inner held = record { buffers = sym (freed_zero b); stays = stays_same _; made = made_both inner none_made none_made (omega (arith, owed_zero b)) refl; places = held; size = refl }
+  unfolding freed_times owed_by_last
+  frees_none b inner held = record { buffers = refl; stays = stays_same _; made = made_both inner none_made none_made refl refl; places = held; size = refl }
 
   -- once more, without bytes
   pub frees_empty : (n : ℕ) (b : Buffers) (first : D) (now : Buffers) (inner : D) → Frees content writes_of syncs_of n b first now inner → (length now.third.bytes == 0) ≡ true
       → Frees content writes_of syncs_of (n + 1) b first (freed now) inner
-  frees_empty n b first now inner frees none =
-      let owes : owed (freed_times n b).third ≡ 0 = ap (λ (x : Buffers). owed x.third) (sym frees.buffers) ∙ cond-true _ 0 1 none in
-      record {
-        buffers = ap freed frees.buffers ∙ sym (freed_more n b);
-        stays = stays_twice _ _ _ frees.stays (none_freed now (content inner) none);
-        made = made_both inner frees.made none_made (omega (arith, owes, owed_more n b)) refl;
-        places = record { first = omega (arith, frees.places.third); second = frees.places.first; third = frees.places.second };
-        size = frees.size;
-      }
+  frees_empty n b first now inner frees none = search (arith, cond-true, freed_more, stays_twice, none_freed, made_both, none_made, owed_more)
 
   -- once more, with bytes that were written
-  pub frees_out : (n : ℕ) (b : Buffers) (first : D) (now : Buffers) (inner new : D) (at : ℕ) (bytes : List ℕ)
-      → Frees content writes_of syncs_of n b first now inner → (length now.third.bytes == 0) ≡ false
-      → at ≡ now.third.at → bytes ≡ now.third.bytes → Tears at (length bytes) (content inner) (content new) → Writes at bytes (content inner) (content new)
+  pub frees_out : (n : ℕ) (b : Buffers) (first : D) (now : Buffers) (inner new : D) (at : ℕ) (bytes : List ℕ) → Frees content writes_of syncs_of n b first now inner
+      → (length now.third.bytes == 0) ≡ false → at ≡ now.third.at → bytes ≡ now.third.bytes → Tears at (length bytes) (content inner) (content new) → Writes at bytes (content inner) (content new)
       → Makes writes_of syncs_of 1 0 inner new → size (content new) ≡ size (content inner) → Frees content writes_of syncs_of (n + 1) b first (freed now) new
-  frees_out n b first now inner new at bytes frees some same_at same_bytes tears writes made size =
-      let owes : owed (freed_times n b).third ≡ 1 = ap (λ (x : Buffers). owed x.third) (sym frees.buffers) ∙ cond-false _ 0 1 some in
-      record {
-        buffers = ap freed frees.buffers ∙ sym (freed_more n b);
-        stays = stays_twice _ _ _ frees.stays (freed_stays now (content inner) (content new) (out_at now.third at bytes _ _ same_at same_bytes frees.places.third tears writes));
-        made = made_both inner frees.made made (omega (arith, owes, owed_more n b)) refl;
-        places = record { first = omega (arith, frees.places.third, size); second = omega (arith, frees.places.first, size); third = omega (arith, frees.places.second, size) };
-        size = size ∙ frees.size;
-      }
+  frees_out n b first now inner new at bytes frees some same_at same_bytes tears writes made size = search (arith, cond-false, freed_more, stays_twice, freed_stays, out_at, made_both, owed_more)
 
 -- all three times no byte waits
 pub freed_thrice : (b : Buffers) → freed_times 3 b ≡ cleared b
@@ -183,11 +136,7 @@ freed_thrice b = refl
 
 -- and all have been written
 pub owed_thrice : (b : Buffers) → owed_by_last 3 b ≡ owed_all b
-owed_thrice b = let none : owed_all (freed_times 3 b) ≡ 0 = ap owed_all (freed_thrice b) in omega (arith, owed_in_all 3 b, none)
-
--- the buffers of all places have the size of the inner disk
-pub sizes_over_all : (b now : Buffers) (old new : Content) → size new ≡ size old → size (content_over_all now new) ≡ size (content_over_all b old)
-sizes_over_all b now old new same = size_over_all now new ∙ same ∙ sym (size_over_all b old)
+owed_thrice b = omega (arith, owed_in_all 3 b, ap owed_all (freed_thrice b))
 
 -- a write of the inner disk, Ok or Err
 pub tears_over_all : (b : Buffers) (at count : ℕ) (old new : Content) → Tears at count old new → Tears at count (content_over_all b old) (content_over_all b new)
@@ -217,26 +166,15 @@ empty_thrice b = rw (freed_thrice b) (record { first = refl; second = refl; thir
 
 -- freed once, the one in front takes all bytes that fit a buffer
 freed_takes : (b : Buffers) (at count : ℕ) → leb count b.third.room ≡ true → takes (freed_times 1 b).first at count ≡ true
-freed_takes b at count room =
-    let empty : takes (emptied b.third) at count ≡ true = grind (arith, nat_tests) in
-    ap (λ (x : Buffers). takes x.first at count) (freed_more 0 b ∙ ap freed (freed_zero b)) ∙ empty
+unfolding freed_times
+freed_takes b at count room = grind (arith, nat_tests)
 
 -- nor if the one in front takes no bytes once all was done to have them taken
 pub readied_none : (b : Buffers) (at count : ℕ) → takes (readied b at count).first at count ≡ false → AreEmpty (readied b at count)
 readied_none b at count refuses =
-    let m = brought b at count in
-    elim (cases_Bool (takes m.first at count)) [
-      | inl fits ↦
-          let no_times : to_free m at count ≡ 0 = cond-true _ _ _ fits in
-          absurd (cc (sym fits ∙ ap (λ (x : Buffers). takes x.first at count) (sym (freed_zero m)) ∙ ap (λ (k : ℕ). takes (freed_times k m).first at count) (sym no_times) ∙ refuses))
-      | inr lacks ↦ elim (cases_Bool (leb count m.third.room)) [
-        | inl room ↦
-            let once : to_free m at count ≡ 1 = cond-false _ _ _ lacks ∙ cond-true _ _ _ room in
-            absurd (cc (sym (freed_takes m at count room) ∙ ap (λ (k : ℕ). takes (freed_times k m).first at count) (sym once) ∙ refuses))
-        | inr long ↦
-            let thrice : to_free m at count ≡ 3 = cond-false _ _ _ lacks ∙ cond-false _ _ _ long in
-            subst (λ (k : ℕ). AreEmpty (freed_times k m)) (sym thrice) (empty_thrice m)
-      ]
+    elim (cases_Bool (takes (brought b at count).first at count)) [
+      | inl fits ↦ search (arith, cond-true, freed_zero)
+      | inr lacks ↦ search (arith, cases_Bool, cond-false, cond-true, freed_takes, empty_thrice)
     ]
 
 -- ---- exits of a call, from how often the last buffer was freed
@@ -246,8 +184,7 @@ module _ {D : Type 0} {content : D → Content} {writes_of syncs_of : D → ℕ}
   -- the bytes of the last buffer were not written: nothing changes
   pub not_freed : (new : D) (at : ℕ) (bytes : List ℕ) → at ≡ now.third.at → bytes ≡ now.third.bytes → Tears at (length bytes) (content inner) (content new)
       → Stays (content_over_all b (content first)) (content_over_all now (content new))
-  not_freed new at bytes same_at same_bytes tears =
-      stays_twice _ _ _ frees.stays (last_stays now (content inner) (content new) (not_out_at now.third at bytes (content inner) (content new) same_at same_bytes tears))
+  not_freed new at bytes same_at same_bytes tears = stays_twice _ _ _ frees.stays (search (arith, last_stays, not_out_at))
 
   -- further calls of the inner disk
   pub freed_makes : (new : D) (more s : ℕ) → Makes writes_of syncs_of more s inner new → Makes writes_of syncs_of (owed_by_last n b + more) s first new
@@ -255,33 +192,26 @@ module _ {D : Type 0} {content : D → Content} {writes_of syncs_of : D → ℕ}
 
   -- what was owed is written or still owed
   pub freed_owes : owed_by_last n b + owed_all now ≡ owed_all b
-  freed_owes = ap (λ (x : Buffers). owed_by_last n b + owed_all x) frees.buffers ∙ owed_in_all n b
+  freed_owes = rw frees.buffers (owed_in_all n b)
 
   -- the disk has the same size
-  pub freed_sizes : (later : Buffers) (new : D) → size (content new) ≡ size (content inner) → size (content_over_all later (content new)) ≡ size (content_over_all b (content first))
-  freed_sizes later new same = sizes_over_all b later (content first) (content new) (same ∙ frees.size)
+  pub freed_sizes : (before later : Buffers) (new : D) → size (content new) ≡ size (content inner) → size (content_over_all later (content new)) ≡ size (content_over_all before (content first))
+  freed_sizes before later new same = size_over_all later (content new) ∙ same ∙ frees.size ∙ sym (size_over_all before (content first))
 
 -- bytes are appended to the one in front: they lie within the disk
-pub appended_places : {D : Type 0} (content : D → Content) (inner : D) (b : Buffers) (at : ℕ) (bytes : List ℕ) → HasPlaces content inner b
-    → IsTrue (takes b.first at (length bytes)) → at + length bytes ≤ size (content inner)
-    → HasPlaces content inner (appended b at bytes)
+pub appended_places : {D : Type 0} (content : D → Content) (inner : D) (b : Buffers) (at : ℕ) (bytes : List ℕ) → HasPlaces content inner b → IsTrue (takes b.first at (length bytes))
+    → at + length bytes ≤ size (content inner) → HasPlaces content inner (appended b at bytes)
 appended_places content inner b at bytes held room fits = record { first = grown_places b.first at bytes _ room fits; second = held.second; third = held.third }
 
 -- the disk is as after a write
 pub appended_tears : (b : Buffers) (at : ℕ) (bytes : List ℕ) (inner : Content) → IsTrue (takes b.first at (length bytes)) → at + length bytes ≤ size inner
     → Tears at (length bytes) (content_over_all b inner) (content_over_all (appended b at bytes) inner)
-appended_tears b at bytes inner room fits =
-    let behind = content_over b.second (content_over b.third inner) in
-    let same : size behind ≡ size inner = size_over b.second (content_over b.third inner) ∙ size_over b.third inner in
-    grown_tears b.first at bytes behind room (omega (arith, fits, same))
+appended_tears b at bytes inner room fits = search (arith, size_over, grown_tears)
 
 -- and as after one that returns Ok
 pub appended_writes : (b : Buffers) (at : ℕ) (bytes : List ℕ) (inner : Content) → IsTrue (takes b.first at (length bytes)) → at + length bytes ≤ size inner
     → Writes at bytes (content_over_all b inner) (content_over_all (appended b at bytes) inner)
-appended_writes b at bytes inner room fits =
-    let behind = content_over b.second (content_over b.third inner) in
-    let same : size behind ≡ size inner = size_over b.second (content_over b.third inner) ∙ size_over b.third inner in
-    grown_writes b.first at bytes behind room (omega (arith, fits, same))
+appended_writes b at bytes inner room fits = search (arith, size_over, grown_writes)
 
 -- at most one write is owed for some bytes
 owed_one : (g : BufferedBytes) → owed g ≤ 1
@@ -293,8 +223,7 @@ appended_owes b at bytes = omega (arith, owed_one (grown b.first at bytes))
 
 -- the buffers after a write whose bytes are appended
 pub waits_appended : (b now : Buffers) (at : ℕ) (bytes : List ℕ) → now ≡ readied b at (length bytes) → takes now.first at (length bytes) ≡ true → appended now at bytes ≡ waiting_after b at bytes
-waits_appended b now at bytes is room =
-    subst (λ (x : Buffers). appended now at bytes ≡ cond (takes x.first at (length bytes)) (appended x at bytes) x) is (sym (cond-true _ _ _ room))
+waits_appended b now at bytes is room = search (arith, cond-true)
 
 -- and after one whose bytes fit no buffer
 pub waits_none : (b now : Buffers) (at : ℕ) (bytes : List ℕ) → now ≡ readied b at (length bytes) → takes now.first at (length bytes) ≡ false → now ≡ waiting_after b at bytes
@@ -304,15 +233,12 @@ module _ {D : Type 0} {content : D → Content} {writes_of syncs_of : D → ℕ}
     {inner : D} (frees : Frees content writes_of syncs_of n m first now inner) (b : Buffers) (at count : ℕ) (is : m ≡ brought b at count) where
   -- a buffer was brought in front, and then the last one was freed so many times: nothing changes
   pub way_stays : Stays (content_over_all b (content first)) (content_over_all now (content inner))
-  way_stays = stays_twice _ _ _ (subst (λ (x : Buffers). Stays (content_over_all b (content first)) (content_over_all x (content first)))
-      (sym is) (brought_stays b at count (content first))) frees.stays
+  way_stays = search (arith, stays_twice, brought_stays)
 
   -- nor if the bytes of the last one are not written then
   pub way_unwritten : (new : D) (from : ℕ) (bytes : List ℕ) → from ≡ now.third.at → bytes ≡ now.third.bytes → Tears from (length bytes) (content inner) (content new)
       → Stays (content_over_all b (content first)) (content_over_all now (content new))
-  way_unwritten new from bytes same_at same_bytes tears =
-      stays_twice _ _ _ (subst (λ (x : Buffers). Stays (content_over_all b (content first)) (content_over_all x (content first))) (sym is) (brought_stays b at count (content first)))
-      (not_freed frees new from bytes same_at same_bytes tears)
+  way_unwritten new from bytes same_at same_bytes tears = search (arith, stays_twice, brought_stays, not_freed)
 
   -- what was owed is written or still owed
   pub way_owes : owed_by_last n m + owed_all now ≡ owed_all b
@@ -328,33 +254,21 @@ module _ {D : Type 0} {content : D → Content} {writes_of syncs_of : D → ℕ}
 
   -- if no buffer takes the bytes even then, all are empty
   pub way_none : n ≡ to_free m at count → takes now.first at count ≡ false → AreEmpty now
-  way_none all refuses =
-      let ready = way_made all in
-      subst AreEmpty (sym ready) (readied_none b at count (subst (λ (x : Buffers). takes x.first at count ≡ false) ready refuses))
+  way_none all refuses = search (arith, way_made, readied_none)
 
 -- A write that returns Ok, from the buffers that were made ready for its bytes: they are appended
 pub passes_appended : {D : Type 0} {writes_of syncs_of : D → ℕ} (old new : BufferedState D) (at : ℕ) (bytes : List ℕ) (ready : Buffers) (made : ℕ) → ready ≡ readied old.buffers at (length bytes)
     → takes ready.first at (length bytes) ≡ true → new.buffers ≡ appended ready at bytes
     → made ≡ owed_by_last (to_free (brought old.buffers at (length bytes)) at (length bytes)) (brought old.buffers at (length bytes))
     → Makes writes_of syncs_of made 0 old.inner new.inner → PassesOn writes_of syncs_of at bytes old new
-passes_appended {D} {writes_of} {syncs_of} old new at bytes ready made is room grows due makes =
-    let none : cond {A = ℕ} (takes (readied old.buffers at (length bytes)).first at (length bytes)) 0 1 ≡ 0 = cond-true _ _ _ (ap (λ (x : Buffers). takes x.first at (length bytes)) (sym is) ∙ room) in
-    record {
-      waiting = grows ∙ waits_appended old.buffers ready at bytes is room;
-      made = subst (λ (k : ℕ). Makes writes_of syncs_of k 0 old.inner new.inner) (omega (arith, due, none)) makes;
-    }
+passes_appended {D} {writes_of} {syncs_of} old new at bytes ready made is room grows due makes = search (arith, cond-true, waits_appended)
 
 -- or they fit no buffer, and are written
 pub passes_written : {D : Type 0} {writes_of syncs_of : D → ℕ} (old new : BufferedState D) (at : ℕ) (bytes : List ℕ) (ready : Buffers) (made : ℕ) → ready ≡ readied old.buffers at (length bytes)
     → takes ready.first at (length bytes) ≡ false → new.buffers ≡ ready
     → made ≡ owed_by_last (to_free (brought old.buffers at (length bytes)) at (length bytes)) (brought old.buffers at (length bytes)) + 1
     → Makes writes_of syncs_of made 0 old.inner new.inner → PassesOn writes_of syncs_of at bytes old new
-passes_written {D} {writes_of} {syncs_of} old new at bytes ready made is long same due makes =
-    let one : cond {A = ℕ} (takes (readied old.buffers at (length bytes)).first at (length bytes)) 0 1 ≡ 1 = cond-false _ _ _ (ap (λ (x : Buffers). takes x.first at (length bytes)) (sym is) ∙ long) in
-    record {
-      waiting = same ∙ waits_none old.buffers ready at bytes is long;
-      made = subst (λ (k : ℕ). Makes writes_of syncs_of k 0 old.inner new.inner) (omega (arith, due, one)) makes;
-    }
+passes_written {D} {writes_of} {syncs_of} old new at bytes ready made is long same due makes = search (arith, cond-false, waits_none)
 
 -- ---- reads
 
@@ -363,15 +277,11 @@ pub all_laid : (b : Buffers) (at : ℕ) (image old new : List ℕ) → LaidOverA
     → new ≡ slice_range (image_over b.first (image_over b.second (image_over b.third image))) at (at + length old)
 all_laid b at image old new laid fits is =
     let behind = image_over b.third image in
-    let long : length behind ≡ length image = length-image_over b.third image in
-    let between = image_over b.second behind in
-    let wide : length between ≡ length behind = length-image_over b.second behind in
-    let first = laid_shows b.third at image old laid.behind laid.third fits is in
-    let second = laid_shows b.second at behind laid.behind laid.between laid.second (omega (arith, fits, long, laid.third.size))
-    (first ∙ ap (λ (n : ℕ). slice_range behind at (at + n)) (sym laid.third.size)) in
-    laid_shows b.first at between laid.between new laid.first (omega (arith, fits, long, wide, laid.third.size, laid.second.size))
-    (second ∙ ap (λ (n : ℕ). slice_range between at (at + n)) (sym laid.second.size))
-    ∙ ap (λ (n : ℕ). slice_range (image_over b.first between) at (at + n)) (laid.second.size ∙ laid.third.size)
+    let long = length-image_over b.third image in
+    let wide = length-image_over b.second behind in
+    laid_shows b.first at (length old) (image_over b.second behind) laid.between new laid.first (laid.second.size ∙ laid.third.size) (omega (arith, fits, long, wide))
+    (laid_shows b.second at (length old) behind laid.behind laid.between laid.second laid.third.size (omega (arith, fits, long))
+    (laid_shows b.third at (length old) image old laid.behind laid.third refl fits is))
 
 -- if one of three facts holds, and two do not, the third does
 third_of : (a b c : Bool) → (a || (b || c)) ≡ true → a ≡ false → b ≡ false → c ≡ true
@@ -382,26 +292,18 @@ third_of a b c one first second = absurd (cc)
 pub all_held : (b : Buffers) (at : ℕ) (image old new : List ℕ) → LaidOverAll b at old new → at + length old ≤ length image → has_all b at (length old) ≡ true
     → new ≡ slice_range (image_over b.first (image_over b.second (image_over b.third image))) at (at + length old)
 all_held b at image old new laid fits held =
+    let n = length old in
     let behind = image_over b.third image in
-    let long : length behind ≡ length image = length-image_over b.third image in
     let between = image_over b.second behind in
-    let wide : length between ≡ length behind = length-image_over b.second behind in
-    let after_third : length laid.behind ≡ length old = laid.third.size in
-    let after_second : length laid.between ≡ length old = laid.second.size ∙ after_third in
-    let ends : (n : ℕ) → n ≡ length old → slice_range (image_over b.first between) at (at + n) ≡ slice_range (image_over b.first between) at (at + length old) =
-    λ n same. ap (λ (n : ℕ). slice_range (image_over b.first between) at (at + n)) same in
-    elim (cases_Bool (holds b.first at (length old))) [
-      | inl front ↦
-          laid_whole b.first at between laid.between new laid.first (omega (arith, fits, long, wide, after_second)) (ap (holds b.first at) after_second ∙ front)
-          ∙ ends (length laid.between) after_second
-      | inr other ↦
-          let second : laid.between ≡ slice_range between at (at + length laid.between) = elim (cases_Bool (holds b.second at (length old))) [
-            | inl middle ↦
-                cc (laid_whole b.second at behind laid.behind laid.between laid.second (omega (arith, fits, long, after_third)) (ap (holds b.second at) after_third ∙ middle), laid.second.size)
-            | inr neither ↦
-                let last : holds b.third at (length old) ≡ true = third_of _ _ _ held other neither in
-                let first = laid_whole b.third at image old laid.behind laid.third fits last ∙ ap (λ (n : ℕ). slice_range behind at (at + n)) (sym after_third) in
-                cc (laid_shows b.second at behind laid.behind laid.between laid.second (omega (arith, fits, long, after_third)) first, laid.second.size)
-          ] in
-          laid_shows b.first at between laid.between new laid.first (omega (arith, fits, long, wide, after_second)) second ∙ ends (length laid.between) after_second
+    let size = laid.second.size ∙ laid.third.size in
+    let in_behind : at + n ≤ length behind = omega (arith, fits, length-image_over b.third image) in
+    let in_between : at + n ≤ length between = omega (arith, in_behind, length-image_over b.second behind) in
+    elim (cases_Bool (holds b.first at n)) [
+      | inl front ↦ laid_whole b.first at n between laid.between new laid.first size in_between front
+      | inr other ↦ laid_shows b.first at n between laid.between new laid.first size in_between (elim (cases_Bool (holds b.second at n)) [
+        | inl middle ↦ laid_whole b.second at n behind laid.behind laid.between laid.second laid.third.size in_behind middle
+        | inr neither ↦
+            laid_shows b.second at n behind laid.behind laid.between laid.second laid.third.size in_behind
+            (laid_whole b.third at n image old laid.behind laid.third refl fits (third_of _ _ _ held other neither))
+      ])
     ]

@@ -1,9 +1,9 @@
 -- The places that a disk in memory marks as pending.
-use Rattle.std.proofs.Common.{◌≡◌, ℕ, ◌+◌, ◌-◌, ◌≤◌, ◌<◌, ◌||◌, Bool, true, false, List, length, slice_range, get_or, sym, ◌∙◌, ap, subst, inl, inr, arith}
+use Rattle.std.proofs.Common.{◌≡◌, ℕ, ◌+◌, ◌-◌, ◌≤◌, ◌<◌, ◌||◌, Bool, true, false, List, length, slice_range, get_or, sym, ◌∙◌, ap, inl, inr, arith}
 use Rattle.std.proofs.lemmas.Bool.{cases_lt, cases_Bool}
 use Rattle.std.proofs.lemmas.List.Edits.{length-between, get_or-between}
 use Rattle.std.proofs.lemmas.Bool.Decides.{nat_tests}
-use Rattle.silt_disk.specs.Disk.{Torn, splice, within}
+use Rattle.silt_disk.specs.Disk.{splice, within}
 use Rattle.std.proofs.lemmas.List.{ext_get_or}
 use Rattle.silt_device.specs.Marks.{LieWithin}
 use Rattle.silt_disk.proofs.Images.{torn_splice, splice_byte}
@@ -21,16 +21,11 @@ or_false : (a b : Bool) → (a || b) ≡ false → (a ≡ false) × (b ≡ false
 or_false a b is = grind arith
 
 -- after a write that marks its range
-pub agrees_written : (at : ℕ) (bytes shown written settled : List ℕ) (pending marked : List Bool) → at + length bytes ≤ length shown
-    → written ≡ splice at bytes shown → ((place : ℕ) → get_or marked place false ≡ (get_or pending place false || within at (length bytes) place))
-    → Agrees shown settled pending → Agrees written settled marked
+pub agrees_written : (at : ℕ) (bytes shown written settled : List ℕ) (pending marked : List Bool) → at + length bytes ≤ length shown → written ≡ splice at bytes shown
+    → ((place : ℕ) → get_or marked place false ≡ (get_or pending place false || within at (length bytes) place)) → Agrees shown settled pending → Agrees written settled marked
 agrees_written at bytes shown written settled pending marked fits is marks agrees place unmarked =
-    let torn = subst (λ image. Torn at (length bytes) shown image) (sym is) (torn_splice at bytes shown fits) in
-    let both = or_false _ _ (sym (marks place) ∙ unmarked) in
-    elim (cases_lt place at) [
-      | inl low ↦ torn.before place low ∙ agrees place both.0
-      | inr high ↦ torn.after place (outside_range at (length bytes) place both.1 (λ low. absurd (omega arith))) ∙ agrees place both.0
-    ]
+    let torn = rw (← is) at (torn_splice at bytes shown fits) in
+    search (arith, or_false, cases_lt, outside_range, torn.before, torn.after)
 
 -- the same for lists that equal these
 pub agrees_at : {shown written : List ℕ} (settled : List ℕ) {pending marked : List Bool} → shown ≡ written → pending ≡ marked → Agrees written settled marked → Agrees shown settled pending
@@ -46,17 +41,10 @@ before_range at count place low = grind (arith, nat_tests)
 after_range : (at count place : ℕ) → at + count ≤ place → within at count place ≡ false
 after_range at count place high = grind (arith, nat_tests)
 
--- one between is in it
-in_range : (from to place : ℕ) → from ≤ place → place < to → within from (to - from) place ≡ true
-in_range from to place low high = grind (arith, nat_tests)
-
 -- outside of the range the shown bytes are settled
 agrees_outside : (from to : ℕ) (shown settled : List ℕ) (pending : List Bool) → LieWithin from to pending → Agrees shown settled pending
     → (place : ℕ) → within from (to - from) place ≡ false → get_or shown place 0 ≡ get_or settled place 0
-agrees_outside from to shown settled pending lie agrees place outside = elim (cases_Bool (get_or pending place false)) [
-  | inl there ↦ absurd (let inside = in_range from to place (lie.low place there) (lie.high place there) in cc)
-  | inr none ↦ agrees place none
-]
+agrees_outside from to shown settled pending lie agrees place outside = search (arith, cases_Bool, lie.low, lie.high)
 
 -- so settling that range settles everything
 pub settled_all : (from to : ℕ) (settled shown : List ℕ) (pending : List Bool) → length shown ≡ length settled → length pending ≡ length shown

@@ -1,9 +1,9 @@
 -- The stops of later lives.
-use Rattle.std.proofs.Common.{◌≡◌, ℕ, ◌+◌, List, [], ◌∷◌, Some, None, drop, sym, ◌∙◌, ap, inl, inr}
+use Rattle.std.proofs.Common.{◌≡◌, ℕ, ◌+◌, List, ◌∷◌, Some, None, drop, ◌∙◌, ap, arith}
 use Rattle.std.specs.List.{slice_get}
 use Rattle.std.proofs.lemmas.List.{drop_more, drop_all}
 use Rattle.std.proofs.lemmas.Option.{slice_get_within, slice_get_cases, get_or_from_slice_get, none-some}
-use Rattle.silt_device.specs.Lives.{Plan, next_life, life_of, endless}
+use Rattle.silt_device.specs.Lives.{next_life, life_of, endless}
 use Rattle.silt_device.specs.declared.life.Stop.{Stop}
 
 -- if there is a next stop, the next life has it
@@ -13,10 +13,4 @@ next_stop stops next stop there =
 
 -- if there is none, the next life has no crash
 pub no_stop : (stops : List Stop) (next : ℕ) → slice_get stops next ≡ None → next_life (drop next stops) ≡ record { life = endless; to_come = drop next stops }
-no_stop stops next none =
-    elim (slice_get_cases stops next).1 [
-      | inl there ↦ absurd (none-some there.0 (sym none ∙ there.2))
-      | inr past ↦
-          let empty : drop next stops ≡ [] = drop_all next stops past.0 in
-          ap next_life empty ∙ ap (λ (rest : List Stop). let plan : Plan = record { life = endless; to_come = rest } in plan) (sym empty)
-    ]
+no_stop stops next none = search (arith, slice_get_cases, none-some, drop_all)

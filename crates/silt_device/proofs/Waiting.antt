@@ -1,12 +1,12 @@
 -- What calls do to a disk with waiting bytes, from what they do to its inner disk.
-use Rattle.std.proofs.Common.{◌≡◌, ℕ, ◌+◌, ◌-◌, ◌≤◌, ◌<◌, ◌||◌, Bool, true, false, List, length, get_or, slice_range, IsTrue, refl, sym, ap, ◌∙◌, subst, inl, inr, arith}
+use Rattle.std.proofs.Common.{◌≡◌, ℕ, ◌+◌, ◌-◌, ◌≤◌, ◌<◌, ◌||◌, Bool, true, false, List, length, get_or, slice_range, IsTrue, refl, sym, ap, ◌∙◌, inl, inr, arith}
 use Rattle.std.proofs.lemmas.List.{ext_get_or, get_or_past, get_or_append_left, get_or-append_right, length-append}
 use Rattle.std.proofs.lemmas.List.Edits.{length-between, get_or-between}
 use Rattle.std.proofs.lemmas.Bool.{cases_lt, cases_Bool, cond-true, cond-false}
 use Rattle.std.proofs.lemmas.Bool.Decides.{nat_tests}
 use Rattle.silt_disk.specs.Disk.{Content, Torn, Tears, Writes, Settles, Stays, Restarts, size, splice, within}
-use Rattle.silt_device.specs.Buffered.{BufferedBytes, BufferedState, Buffers, buffered_content, content_over_all, takes, grown, emptied, waits, image_over}
-use Rattle.silt_device.specs.Buffered.{length-image_over, byte_elsewhere, byte_there, content_over, neither, holds, LaidOver}
+use Rattle.silt_device.specs.Buffered.{BufferedBytes, BufferedState, Buffers, buffered_content, content_over_all, takes, grown, emptied, waits, image_over, length-image_over, byte_elsewhere}
+use Rattle.silt_device.specs.Buffered.{byte_there, content_over, holds, LaidOver}
 use Rattle.std.specs.Prelude.{Result, Ok, Err, IfOk}
 use Rattle.silt_device.specs.File.{FileState, IsOpened, file_content, random_access_content}
 use Rattle.silt_assumption.specs.Files.{system_content}
@@ -17,36 +17,19 @@ use Rattle.silt_disk.proofs.Images.{torn_splice, splice_byte}
 
 -- two calls that change nothing
 pub stays_twice : (a b c : Content) → Stays a b → Stays b c → Stays a c
-stays_twice a b c first second = record {
-  honest = second.honest ∙ first.honest;
-  shown = λ honest. second.shown (first.honest ∙ honest) ∙ first.shown honest;
-  settled = λ honest. second.settled (first.honest ∙ honest) ∙ first.settled honest;
-  pending = λ honest place. second.pending (first.honest ∙ honest) place ∙ first.pending honest place;
-}
+stays_twice a b c first second = search (arith, second.shown, first.shown, second.settled, first.settled, second.pending, first.pending)
 
 -- a call that changes nothing, and then a write
 pub stays_tears : (at count : ℕ) (a b c : Content) → Stays a b → Tears at count b c → Tears at count a c
-stays_tears at count a b c stays tears = record {
-  honest = tears.honest ∙ stays.honest;
-  shown = λ honest. subst (λ (image : List ℕ). Torn at count image c.shown) (stays.shown honest) (tears.shown (stays.honest ∙ honest));
-  settled = λ honest. tears.settled (stays.honest ∙ honest) ∙ stays.settled honest;
-  pending = λ honest place. tears.pending (stays.honest ∙ honest) place ∙ ap (λ (p : Bool). p || within at count place) (stays.pending honest place);
-}
+stays_tears at count a b c stays tears = search (arith, stays.shown, tears.shown, tears.settled, stays.settled, tears.pending, stays.pending)
 
 -- a call that changes nothing, and then a write that returns Ok
 pub stays_writes : (at : ℕ) (bytes : List ℕ) (a b c : Content) → Stays a b → Writes at bytes b c → Writes at bytes a c
-stays_writes at bytes a b c stays writes = record {
-  honest = writes.honest ∙ stays.honest;
-  shown = λ honest. writes.shown (stays.honest ∙ honest) ∙ ap (splice at bytes) (stays.shown honest);
-}
+stays_writes at bytes a b c stays writes = search (arith, writes.shown, stays.shown)
 
 -- a call that changes nothing, and then a sync
 pub stays_settles : (a b c : Content) → Stays a b → Settles b c → Settles a c
-stays_settles a b c stays settles = record {
-  honest = settles.honest ∙ stays.honest;
-  shown = λ honest. settles.shown (stays.honest ∙ honest) ∙ stays.shown honest;
-  rests = settles.rests;
-}
+stays_settles a b c stays settles = search (arith, settles.shown, stays.shown)
 
 -- ---- images with waiting bytes
 
@@ -82,10 +65,7 @@ pub torn_under : (g : BufferedBytes) (old new : List ℕ) → Torn g.at (length 
 torn_under g old new torn = ext_get_or 0 _ _ (length-image_over g new ∙ torn.size ∙ sym (length-image_over g old)) (λ place inside. elim (cases_Bool (waits g place)) [
   | inl there ↦
       byte_there g new place there (omega (arith, length-image_over g new)) ∙ sym (byte_there g old place there (omega (arith, length-image_over g new, torn.size)))
-  | inr elsewhere ↦ byte_stays g old new place torn.size (elim (cases_lt place g.at) [
-    | inl low ↦ torn.before place low
-    | inr high ↦ torn.after place (apart g place elsewhere (λ low. absurd (omega arith)))
-  ])
+  | inr elsewhere ↦ search (arith, byte_stays, cases_lt, torn.before, torn.after)
 ])
 
 -- once they are written, the image has them
@@ -98,22 +78,14 @@ written_over g image fits =
           byte_there g image place there (omega (arith, length-image_over g image))
           ∙ sym (splice_byte g.at g.bytes image (place - g.at) fits (omega (arith, range.0, range.1)))
           ∙ ap (λ (n : ℕ). get_or (splice g.at g.bytes image) n 0) (omega (arith, range.0))
-      | inr elsewhere ↦ byte_elsewhere g image place elsewhere ∙ sym (elim (cases_lt place g.at) [
-        | inl low ↦ torn.before place low
-        | inr high ↦ torn.after place (apart g place elsewhere (λ low. absurd (omega arith)))
-      ])
+      | inr elsewhere ↦ byte_elsewhere g image place elsewhere ∙ sym (search (arith, cases_lt, torn.before, torn.after))
     ])
 
 -- ---- calls of the inner disk
 
 -- a call that changes nothing
 pub stays_over : (g : BufferedBytes) (old new : Content) → Stays old new → Stays (content_over g old) (content_over g new)
-stays_over g old new stays = record {
-  honest = stays.honest;
-  shown = λ honest. ap (image_over g) (stays.shown honest);
-  settled = stays.settled;
-  pending = λ honest place. ap (λ (p : Bool). p || waits g place) (stays.pending honest place);
-}
+stays_over g old new stays = search (arith, stays.shown, stays.pending)
 
 -- of three, the last two in turn
 pub or_swap : (a b c : Bool) → ((a || b) || c) ≡ ((a || c) || b)
@@ -148,58 +120,24 @@ tears_over g at count old new tears = record {
 
 -- a write that returns Ok, if no byte waits
 pub writes_over : (g : BufferedBytes) (at : ℕ) (bytes : List ℕ) (old new : Content) → length g.bytes ≡ 0 → Writes at bytes old new → Writes at bytes (content_over g old) (content_over g new)
-writes_over g at bytes old new none writes = record {
-  honest = writes.honest;
-  shown = λ honest. none_over g new.shown none ∙ writes.shown honest ∙ ap (splice at bytes) (sym (none_over g old.shown none));
-}
+writes_over g at bytes old new none writes = search (arith, none_over, writes.shown)
 
 -- a sync that returns Ok, if no byte waits
 pub settles_over : (g : BufferedBytes) (old new : Content) → length g.bytes ≡ 0 → Settles old new → Settles (content_over g old) (content_over g new)
-settles_over g old new none settles = record {
-  honest = settles.honest;
-  shown = λ honest. none_over g new.shown none ∙ settles.shown honest ∙ sym (none_over g old.shown none);
-  rests = record {
-    settled = λ honest. settles.rests.settled honest ∙ sym (none_over g new.shown none);
-    pending = λ honest place. or_none (new.pending place) _ (none_waits g place none) ∙ settles.rests.pending honest place;
-  };
-}
+settles_over g old new none settles = search (arith, none_over, or_none, none_waits, settles.shown, settles.rests.settled, new.pending, settles.rests.pending)
 
 -- a write of the waiting bytes returns Ok: no byte waits any longer, and nothing changes
 pub written_out : (g : BufferedBytes) (old new : Content) → g.at + length g.bytes ≤ size old → Tears g.at (length g.bytes) old new
     → Writes g.at g.bytes old new → Stays (content_over g old) (content_over (emptied g) new)
-written_out g old new fits tears writes = record {
-  honest = tears.honest;
-  shown = λ honest. none_over (emptied g) new.shown refl ∙ writes.shown honest ∙ sym (written_over g old.shown fits);
-  settled = tears.settled;
-  pending = λ honest place. or_none (new.pending place) (waits (emptied g) place) (none_waits (emptied g) place refl) ∙ tears.pending honest place;
-}
+written_out g old new fits tears writes = search (arith, none_over, written_over, or_none, none_waits, writes.shown, new.pending, tears.pending)
 
 -- it returns Err: the bytes still wait, and nothing changes
 pub not_written_out : (g : BufferedBytes) (old new : Content) → Tears g.at (length g.bytes) old new → Stays (content_over g old) (content_over g new)
-not_written_out g old new tears = record {
-  honest = tears.honest;
-  shown = λ honest. torn_under g old.shown new.shown (tears.shown honest);
-  settled = tears.settled;
-  pending = λ honest place. ap (λ (p : Bool). p || waits g place) (tears.pending honest place) ∙ or_again (old.pending place) (waits g place);
-}
+not_written_out g old new tears = search (arith, torn_under, or_again, tears.shown, tears.pending, old.pending)
 
 -- a crash: the waiting bytes are lost
 pub restarts_over : (g : BufferedBytes) (old new : Content) → Restarts old new → Restarts (content_over g old) (content_over (emptied g) new)
-restarts_over g old new restarts =
-    let now = none_over (emptied g) new.shown refl in
-    record {
-      honest = restarts.honest;
-      left = λ honest.
-          let left = restarts.left honest in
-          record {
-            size = ap length now ∙ left.size;
-            same = λ place none. ap (λ (l : List ℕ). get_or l place 0) now ∙ left.same place (neither _ _ none).0;
-          };
-      rests = record {
-        settled = λ honest. restarts.rests.settled honest ∙ sym now;
-        pending = λ honest place. or_none (new.pending place) _ (none_waits (emptied g) place refl) ∙ restarts.rests.pending honest place;
-      };
-    }
+restarts_over g old new restarts = search (arith, none_over, or_none, none_waits, restarts.left, restarts.rests.settled, new.pending, restarts.rests.pending)
 
 -- ---- more waiting bytes
 
@@ -209,24 +147,20 @@ continues g from count room some = grind (arith, nat_tests)
 
 -- the places of both
 within_both : (at n from m place : ℕ) → (0 < n → from ≡ at + n) → within (from - n) (n + m) place ≡ (within at n place || within from m place)
-within_both at n from m place next = elim (cases_lt 0 n) [
-  | inl some ↦ let is = next some in grind (arith, nat_tests)
-  | inr none ↦ grind (arith, nat_tests)
-]
+within_both at n from m place next = search (arith, cases_lt)
 
 module _ (g : BufferedBytes) (from : ℕ) (bytes image : List ℕ) (room : IsTrue (takes g from (length bytes))) (fits : from + length bytes ≤ length image) where
   -- a byte waits at a place if it did before, or if the place is one of the new bytes'
   waits_grown : (place : ℕ) → waits (grown g from bytes) place ≡ (waits g place || within from (length bytes) place)
-  waits_grown place =
-      cc (length-append g.bytes bytes, within_both g.at (length g.bytes) from (length bytes) place (continues g from (length bytes) room))
+  waits_grown place = cc (length-append g.bytes bytes, within_both g.at (length g.bytes) from (length bytes) place (continues g from (length bytes) room))
 
   -- outside of the new bytes nothing changes
   byte_grown : (place : ℕ) → within from (length bytes) place ≡ false → get_or (image_over (grown g from bytes) image) place 0 ≡ get_or (image_over g image) place 0
   byte_grown place outside = elim (cases_Bool (waits g place)) [
     | inl there ↦
         let range = within_range g place there in
-        let next = continues g from (length bytes) room (omega (arith, range.0, range.1)) in
-        let now : waits (grown g from bytes) place ≡ true = waits_grown place ∙ ap (λ (p : Bool). p || within from (length bytes) place) there in
+        let next = continues g from _ room (omega (arith, range.0, range.1)) in
+        let now : waits (grown g from bytes) place ≡ true = cc (waits_grown place) in
         elim (cases_lt place (length image)) [
           | inl inside ↦
               byte_there (grown g from bytes) image place now inside
@@ -236,8 +170,7 @@ module _ (g : BufferedBytes) (from : ℕ) (bytes image : List ℕ) (room : IsTru
           | inr past ↦ get_or_past _ place 0 (omega (arith, length-image_over (grown g from bytes) image)) ∙ sym (get_or_past _ place 0 (omega (arith, length-image_over g image)))
         ]
     | inr elsewhere ↦
-        byte_elsewhere (grown g from bytes) image place (waits_grown place ∙ ap (λ (p : Bool). p || within from (length bytes) place) elsewhere ∙ outside)
-        ∙ sym (byte_elsewhere g image place elsewhere)
+        byte_elsewhere (grown g from bytes) image place (cc (waits_grown place)) ∙ sym (byte_elsewhere g image place elsewhere)
   ]
 
   -- the new bytes are there
@@ -288,46 +221,40 @@ grown_tears g from bytes inner room fits = record {
 -- and as after one that returns Ok
 pub grown_writes : (g : BufferedBytes) (from : ℕ) (bytes : List ℕ) (inner : Content) → IsTrue (takes g from (length bytes))
     → from + length bytes ≤ size inner → Writes from bytes (content_over g inner) (content_over (grown g from bytes) inner)
-grown_writes g from bytes inner room fits = record {
-  honest = refl;
-  shown = λ honest. written_grown g from bytes inner.shown room fits;
-}
+grown_writes g from bytes inner room fits = search (arith, written_grown)
 
 -- ---- reads
 
 -- the waiting bytes laid over a part of the image give the same part of the image with the waiting bytes
-pub laid_shows : (g : BufferedBytes) (at : ℕ) (image old new : List ℕ) → LaidOver g at old new → at + length old ≤ length image
-    → old ≡ slice_range image at (at + length old) → new ≡ slice_range (image_over g image) at (at + length old)
-laid_shows g at image old new laid fits is =
-    let in_over : at + length old ≤ length (image_over g image) = omega (arith, length-image_over g image) in
-    ext_get_or 0 _ _ (laid.size ∙ sym (omega (arith, length-between (image_over g image) at (at + length old) in_over))) (λ place inside.
+pub laid_shows : (g : BufferedBytes) (at n : ℕ) (image old new : List ℕ) → LaidOver g at old new → length old ≡ n → at + n ≤ length image
+    → old ≡ slice_range image at (at + n) → new ≡ slice_range (image_over g image) at (at + n)
+laid_shows g at n image old new laid long fits is =
+    let in_over : at + n ≤ length (image_over g image) = omega (arith, length-image_over g image) in
+    ext_get_or 0 _ _ (laid.size ∙ sym (omega (arith, length-between (image_over g image) at (at + n) in_over))) (λ place inside.
     let near : place < length old = omega (arith, laid.size) in
-    let ahead : at + place < at + length old = omega arith in
-    let shown = get_or-between (image_over g image) at (at + length old) place 0 ahead in
+    let ahead : at + place < at + n = omega arith in
+    let shown = get_or-between (image_over g image) at (at + n) place 0 ahead in
     laid.byte place near ∙ sym (shown ∙ elim (cases_Bool (waits g (at + place))) [
       | inl there ↦ byte_there g image (at + place) there (omega arith) ∙ sym (cond-true _ _ _ there)
       | inr elsewhere ↦
-          byte_elsewhere g image (at + place) elsewhere
-          ∙ sym (cond-false _ _ _ elsewhere ∙ ap (λ (l : List ℕ). get_or l place 0) is ∙ get_or-between image at (at + length old) place 0 ahead)
+          cc (byte_elsewhere g image (at + place) elsewhere, cond-false _ _ _ elsewhere, get_or-between image at (at + n) place 0 ahead)
     ]))
 
 -- if all bytes of the range wait, the image does not matter
-pub laid_whole : (g : BufferedBytes) (at : ℕ) (image old new : List ℕ) → LaidOver g at old new → at + length old ≤ length image
-    → IsTrue (holds g at (length old)) → new ≡ slice_range (image_over g image) at (at + length old)
-laid_whole g at image old new laid fits all =
-    let in_over : at + length old ≤ length (image_over g image) = omega (arith, length-image_over g image) in
-    ext_get_or 0 _ _ (laid.size ∙ sym (omega (arith, length-between (image_over g image) at (at + length old) in_over))) (λ place inside.
+pub laid_whole : (g : BufferedBytes) (at n : ℕ) (image old new : List ℕ) → LaidOver g at old new → length old ≡ n → at + n ≤ length image
+    → IsTrue (holds g at n) → new ≡ slice_range (image_over g image) at (at + n)
+laid_whole g at n image old new laid long fits all =
+    let in_over : at + n ≤ length (image_over g image) = omega (arith, length-image_over g image) in
+    ext_get_or 0 _ _ (laid.size ∙ sym (omega (arith, length-between (image_over g image) at (at + n) in_over))) (λ place inside.
     let near : place < length old = omega (arith, laid.size) in
+    let ahead : place < n = omega arith in
     let there : waits g (at + place) ≡ true = grind (arith, nat_tests) in
     laid.byte place near ∙ cond-true _ _ _ there
-    ∙ sym (get_or-between (image_over g image) at (at + length old) place 0 (omega arith) ∙ byte_there g image (at + place) there (omega arith)))
+    ∙ sym (get_or-between (image_over g image) at (at + n) place 0 (omega arith) ∙ byte_there g image (at + place) there (omega arith)))
 
 -- the waiting bytes do not overlap the range
 pub laid_nowhere : (g : BufferedBytes) (at : ℕ) (old : List ℕ) → ((place : ℕ) → place < length old → waits g (at + place) ≡ false) → LaidOver g at old old
-laid_nowhere g at old none = record {
-  size = refl;
-  byte = λ place inside. sym (cond-false _ _ _ (none place inside));
-}
+laid_nowhere g at old none = record { size = refl; byte = λ place inside. sym (cond-false _ _ _ (none place inside)) }
 
 -- or some of them do
 module _ (g : BufferedBytes) (at start end : ℕ) (old part : List ℕ) (a : g.at ≤ start) (b : at ≤ start) (c : start ≤ end) (d : end ≤ g.at + length g.bytes) (e : end ≤ at + length old)
@@ -358,13 +285,8 @@ module _ (g : BufferedBytes) (at start end : ℕ) (old part : List ℕ) (a : g.a
       | inr high ↦ elim (cases_lt (at + place) end) [
         | inl there ↦
             let same : (start - g.at) + (at + place - start) ≡ at + place - g.at = omega arith in
-            ap (λ (n : ℕ). get_or (splice (start - at) part old) n 0) (omega arith)
-            ∙ splice_byte (start - at) part old (at + place - start) part_fits (omega (arith, part_size))
-            ∙ ap (λ (l : List ℕ). get_or l (at + place - start) 0) is
-            ∙ get_or-between g.bytes (start - g.at) (end - g.at) (at + place - start) 0 (omega arith)
-            ∙ ap (λ (n : ℕ). get_or g.bytes n 0) same
-            ∙ sym (cond-true _ _ _ (waits_between place high there))
-        | inr behind ↦ part_torn.after place (omega (arith, part_size)) ∙ sym (cond-false _ _ _ (none_behind place inside behind))
+            search (arith, splice_byte, part_fits, part_size, get_or-between, cond-true, waits_between)
+        | inr behind ↦ search (arith, part_torn, part_size, cond-false, none_behind)
       ]
     ];
   }
@@ -379,26 +301,25 @@ size_over g inner = length-image_over g inner.shown
 pub size_over_all : (b : Buffers) (inner : Content) → size (content_over_all b inner) ≡ size inner
 size_over_all b inner = size_over b.first (content_over b.second (content_over b.third inner)) ∙ size_over b.second (content_over b.third inner) ∙ size_over b.third inner
 
+-- a range that lies within a disk that buffers lies within its inner disk
+pub fits_inner : {D : Type 0} (content : D → Content) {s t : BufferedState D} {end : ℕ} → s ≡ t → end ≤ size (buffered_content content t) → end ≤ size (content s.inner)
+fits_inner content {s} is fits = let now = rw (← is) at fits in omega (arith, now, size_over_all s.buffers (content s.inner))
+
 -- more waiting bytes lie within the disk if the last of them does
 pub grown_places : (g : BufferedBytes) (from : ℕ) (bytes : List ℕ) (size : ℕ) → IsTrue (takes g from (length bytes))
     → from + length bytes ≤ size → (grown g from bytes).at + length (grown g from bytes).bytes ≤ size
-grown_places g from bytes size room fits =
-    let before : length g.bytes ≤ from = elim (cases_lt 0 (length g.bytes)) [ inl some ↦ omega (arith, continues g from (length bytes) room some) | inr none ↦ omega arith ] in
-    omega (arith, before, length-append g.bytes bytes)
+grown_places g from bytes size room fits = search (arith, cases_lt, continues, length-append)
 
 -- ---- exits of a call, by the waiting bytes and their place
 
 -- the waiting bytes were written
 pub out_at : (g : BufferedBytes) (at : ℕ) (bytes : List ℕ) (old new : Content) → at ≡ g.at → bytes ≡ g.bytes → g.at + length g.bytes ≤ size old
     → Tears at (length bytes) old new → Writes at bytes old new → Stays (content_over g old) (content_over (emptied g) new)
-out_at g at bytes old new same_at same_bytes fits tears writes =
-    written_out g old new fits (subst (λ (n : ℕ). Tears n (length g.bytes) old new) same_at (subst (λ (l : List ℕ). Tears at (length l) old new) same_bytes tears))
-    (subst (λ (n : ℕ). Writes n g.bytes old new) same_at (subst (λ (l : List ℕ). Writes at l old new) same_bytes writes))
+out_at g at bytes old new same_at same_bytes fits tears writes = search (arith, written_out)
 
 -- they were not written
 pub not_out_at : (g : BufferedBytes) (at : ℕ) (bytes : List ℕ) (old new : Content) → at ≡ g.at → bytes ≡ g.bytes → Tears at (length bytes) old new → Stays (content_over g old) (content_over g new)
-not_out_at g at bytes old new same_at same_bytes tears =
-    not_written_out g old new (subst (λ (n : ℕ). Tears n (length g.bytes) old new) same_at (subst (λ (l : List ℕ). Tears at (length l) old new) same_bytes tears))
+not_out_at g at bytes old new same_at same_bytes tears = search (arith, not_written_out)
 
 -- ---- a disk in a file
 

@@ -19,12 +19,12 @@ loop-turn-preserved g c =
         frees = rw (c.free.ensures, w.self-inside-is)
             (frees_out _ _ _ _ _ _ _ _ so_far (search rules) w.last_at.ensures w.last_bytes.ensures w.write.ensures.torn w.in_default.ensures.written w.write.ensures.made w.write.ensures.size);
         upto = search rules;
-        calls = rw (w.self-inside-is) c.loop-turn.invariant.calls;
+        calls = rw w.self-inside-is c.loop-turn.invariant.calls;
       }
       | else-not-is_last_empty w ↦ record {
         frees = rw (c.free.ensures, w.self-inside-is) (frees_empty _ _ _ _ _ so_far (search rules));
         upto = search rules;
-        calls = rw (w.self-inside-is) c.loop-turn.invariant.calls;
+        calls = rw w.self-inside-is c.loop-turn.invariant.calls;
       }
     ]
 
@@ -35,7 +35,7 @@ returns-in-Err-clause-syncs g c =
     let long : c.len-size.result ≡ size (content_over_all c.loop-turn.self-inside.buffers new) =
     c.len-size.ensures ∙ sym (size_over_all c.loop-turn.self-inside.buffers new ∙ c.write.ensures.size ∙ c.loop-turn.invariant.frees.size) in
     record {
-      size = rw (← c.self.view_is) (freed_sizes c.loop-turn.invariant.frees _ _ c.write.ensures.size);
+      size = rw (← c.self.view_is) (freed_sizes c.loop-turn.invariant.frees _ _ _ c.write.ensures.size);
       made = search rules;
       settled = search rules;
       unchanged = rw (← c.self.view_is) (not_freed c.loop-turn.invariant.frees _ _ _ c.last_at.ensures c.last_bytes.ensures c.write.ensures.torn);
@@ -53,7 +53,7 @@ returns-in-Ok-clause-syncs g c =
     let all : c.loop-turn._turn ≡ 3 = omega (arith, c.loop-turn-test.false, c.loop-turn.invariant.upto) in
     let none : AreEmpty c.loop-turn.self-inside.buffers = rw (frees.buffers, all) (empty_thrice _) in
     record {
-      size = rw (← c.self.view_is) (freed_sizes c.loop-turn.invariant.frees _ _ c.sync.ensures.size);
+      size = rw (← c.self.view_is) (freed_sizes c.loop-turn.invariant.frees _ _ _ c.sync.ensures.size);
       made = search rules;
       settled = rw (← c.self.view_is) (stays_settles _ _ _ frees.stays (settles_over_all _ _ _ none c.in-Ok.ensures.settled));
       unchanged = search rules;
@@ -67,7 +67,7 @@ returns-in-Err-sync-clause-syncs g c =
     let long : c.len-size.result ≡ size (content_over_all c.loop-turn.self-inside.buffers new) =
     c.len-size.ensures ∙ sym (size_over_all c.loop-turn.self-inside.buffers new ∙ c.sync.ensures.size ∙ c.loop-turn.invariant.frees.size) in
     record {
-      size = rw (← c.self.view_is) (freed_sizes c.loop-turn.invariant.frees _ _ c.sync.ensures.size);
+      size = rw (← c.self.view_is) (freed_sizes c.loop-turn.invariant.frees _ _ _ c.sync.ensures.size);
       made = search rules;
       settled = search rules;
       unchanged = search rules;
