@@ -1,7 +1,7 @@
 -- Which bytes of an image count, and what a change leaves of its stores.
-use Rattle.silt_image.proofs.Common.{◌≢◌, zero, suc, ◌+◌, ◌%◌, ◌≤◌, ◌<◌, ◌⊎◌, ◌==◌, inl, inr, true, false, slice_range, sym, ap, ◌∙◌, arith, list_any, range_with_len, and_parts, or_parts}
-use Rattle.silt_image.proofs.Common.{eq-eqb, ne_eqb, length-between, Shape, device_size, StoredRow, is_well_formed, manifest_found, open_record, Body, SlotRecord, Damage, header_of}
-use Rattle.silt_image.proofs.Common.{header_shape, log_part, Stores, stores_of_current, stores_shaped, with_part_rows, HasStores, Finding}
+use Rattle.silt_image.proofs.Common.{◌≢◌, zero, suc, ◌+◌, ◌%◌, ◌≤◌, ◌<◌, ◌⊎◌, ◌==◌, inl, inr, true, false, slice_range, sym, ap, ◌∙◌, arith, list_any, range_with_len, and_parts, or_parts, eq-eqb}
+use Rattle.silt_image.proofs.Common.{ne_eqb, length-between, Shape, device_size, StoredRow, is_well_formed, manifest_found, open_record, Body, SlotRecord, Damage, header_of, header_shape}
+use Rattle.silt_image.proofs.Common.{log_part, Stores, stores_of_current, stores_shaped, with_part_rows, HasStores, Finding}
 use Rattle.std.proofs.Common.{◌≡◌, ℕ, ◌*◌, List, [], ◌∷◌, length, map, Contains, Result, Ok, Err, refl}
 use Rattle.std.specs.List.{prefix_len}
 use Rattle.std.proofs.lemmas.Bool.{ltb-true, eqb-false, cases_eq, cases_order}
@@ -34,8 +34,7 @@ same_part : (at count from to : ℕ) (before after : List ℕ) → length after 
     → to ≤ at + count → SameWithin at count before after → slice_range after from to ≡ slice_range before from to
 same_part at count from to before after size fits low high same =
     let in_after : to ≤ length after = omega (arith, size) in
-    ext_get_or 0 (slice_range after from to) (slice_range before from to) (length-between after from to in_after ∙ sym (length-between before from to fits))
-    (λ place inside.
+    ext_get_or 0 (slice_range after from to) (slice_range before from to) (length-between after from to in_after ∙ sym (length-between before from to fits)) (λ place inside.
     let near : from + place < to = omega (arith, inside, length-between after from to in_after) in
     get_or-between after from to place 0 near ∙ same.same (from + place) (omega arith) (omega arith) ∙ sym (get_or-between before from to place 0 near))
 
@@ -164,9 +163,8 @@ names_regions s slot b sound =
     }
 
 -- the same hash stores
-hashes_same : (s : Shape) (ids : List ℕ) (before after : List ℕ) → length after ≡ length before → device_size s ≤ length before
-    → ((region : ℕ) → Contains ids region → region < s.hashes) → ((region : ℕ) → Contains ids region → SameWithin (hash_at s region) (hash_size s) before after)
-    → map (hash_part s after) ids ≡ map (hash_part s before) ids
+hashes_same : (s : Shape) (ids : List ℕ) (before after : List ℕ) → length after ≡ length before → device_size s ≤ length before → ((region : ℕ) → Contains ids region → region < s.hashes)
+    → ((region : ℕ) → Contains ids region → SameWithin (hash_at s region) (hash_size s) before after) → map (hash_part s after) ids ≡ map (hash_part s before) ids
 hashes_same s ids before after size fits there same = map_same (hash_part s after) (hash_part s before) ids (λ region named.
     let inside : hash_at s region + hash_size s ≤ device_size s = hash_fits s.logs s.hashes (log_size s) (hash_size s) (sorted_size s) region (there region named) in
     ap (λ (rows : List StoredRow). record { region = region; rows = rows }) (hash_rows_same s region before after size (omega (arith, inside, fits)) (same region named)))
@@ -279,8 +277,7 @@ stores_regions image s has = names_regions s.shape (s.body.generation % 2) s.bod
 log_after : (s : Shape) (region id : ℕ) (before after : List ℕ) → Torn (commits_at s region) (log_size s) before after
     → device_size s ≤ length before → id < s.logs → with_part_rows region (log_rows s region after) (log_part s before id) ≡ log_part s after id
 log_after s region id before after torn fits there = elim (cases_eq id region) [
-  | inl is ↦
-      cc (takes_rows region (log_rows s region after) (log_part s before id) (eq-eqb id region is))
+  | inl is ↦ cc (takes_rows region (log_rows s region after) (log_part s before id) (eq-eqb id region is))
   | inr other ↦
       keeps_rows region (log_rows s region after) (log_part s before id) (ne_eqb id region other)
       ∙ ap (λ (rows : List StoredRow). record { region = id; rows = rows }) (sym (log_same s id before after torn.size fits there
@@ -288,9 +285,8 @@ log_after s region id before after torn fits there = elim (cases_eq id region) [
 ]
 
 -- the logs, with the rows that they have now
-logs_after : (s : Shape) (region : ℕ) (ids : List ℕ) (before after : List ℕ) → Torn (commits_at s region) (log_size s) before after
-    → device_size s ≤ length before → ((id : ℕ) → Contains ids id → id < s.logs)
-    → map (with_part_rows region (log_rows s region after)) (map (log_part s before) ids) ≡ map (log_part s after) ids
+logs_after : (s : Shape) (region : ℕ) (ids : List ℕ) (before after : List ℕ) → Torn (commits_at s region) (log_size s) before after → device_size s ≤ length before
+    → ((id : ℕ) → Contains ids id → id < s.logs) → map (with_part_rows region (log_rows s region after)) (map (log_part s before) ids) ≡ map (log_part s after) ids
 logs_after s region [] before after torn fits there = refl
 logs_after s region (id ∷ ids) before after torn fits there =
     let first = log_after s region id before after torn fits (there id (0, omega arith, refl)) in
@@ -303,32 +299,23 @@ log_changed : (s : Shape) (b : Body) (region : ℕ) (before after : List ℕ) �
 unfolding with_log_rows stores_named
 log_changed s b region before after there torn fits below =
     let logs = logs_after s region (b.active ∷ b.frozen) before after torn fits there.logs in
-    let hashes : map (hash_part s before) b.hashed ≡ map (hash_part s after) b.hashed = sym (hashes_same s b.hashed before after torn.size fits there.hashes (λ
-    id named. torn_same (commits_at s region) (log_size s) (hash_at s id) (hash_size s) before after torn (inr (log_before_hash s.logs s.hashes (log_size s)
-    (hash_size s) (sorted_size s) region id below)))) in
+    let hashes : map (hash_part s before) b.hashed ≡ map (hash_part s after) b.hashed = sym (hashes_same s b.hashed before after torn.size fits there.hashes (λ id named.
+    torn_same (commits_at s region) (log_size s) (hash_at s id) (hash_size s) before after torn (inr (log_before_hash s.logs s.hashes (log_size s) (hash_size s) (sorted_size s) region id below)))) in
     let entries : sorted_rows s b.sorted b.sorted_count before ≡ sorted_rows s b.sorted b.sorted_count after = sym (entries_same s b.sorted b.sorted_count
     before after torn.size fits there.sorted there.sorted_count (torn_same (commits_at s region) (log_size s) (sorted_at s b.sorted) (sorted_size s) before
     after torn (inr (log_before_sorted s.logs s.hashes (log_size s) (hash_size s) (sorted_size s) region b.sorted below)))) in
     cc
 
--- other rows leave the shape and the body
-shape_stays : (region : ℕ) (rows : List StoredRow) (s : Stores) → (with_log_rows region rows s).shape ≡ s.shape
-unfolding with_log_rows
-shape_stays region rows s = refl
-
-body_stays : (region : ℕ) (rows : List StoredRow) (s : Stores) → (with_log_rows region rows s).body ≡ s.body
-unfolding with_log_rows
-body_stays region rows s = refl
-
 -- a change in a log region changes the rows of that log alone
 pub log_region_law : LogRegionLaw
+unfolding with_log_rows
 log_region_law before after s region e below torn =
     let has = (stores_law before s).0 e in
     let shaped = shape_parts _ _ _ has.shape in
     let rows : List StoredRow = log_rows s.shape region after in
     let changed : with_log_rows region rows s ≡ stores_named s.shape s.body after =
     ap (with_log_rows region rows) has.named ∙ log_changed _ s.body region before after (stores_regions before s has) torn (omega (arith, shaped.size)) below in
-    stores_after _ _ before after s _ has (omega arith) torn (shape_stays region rows s) (body_stays region rows s) changed
+    stores_after _ _ before after s _ has (omega arith) torn refl refl changed
 
 -- stores that a change leaves
 unchanged : (at count : ℕ) (before after : List ℕ) (s : Stores) → image_stores before ≡ Ok s → 12288 ≤ at → Torn at count before after
@@ -352,11 +339,9 @@ free_hash_law before after s region e below free torn =
     let there = stores_regions before s has in
     let sh = s.shape in
     unchanged (hash_at sh region) (hash_size sh) before after s e (omega arith) torn (record {
-      logs = λ id named. torn_same (hash_at sh region) (hash_size sh) (commits_at sh id) (log_size sh) before after torn
-          (inl (search (arith, log_before_hash, there.logs)));
+      logs = λ id named. torn_same (hash_at sh region) (hash_size sh) (commits_at sh id) (log_size sh) before after torn (inl (search (arith, log_before_hash, there.logs)));
       hashes = search (arith, torn_same, pieces_apart, other_than);
-      sorted = torn_same (hash_at sh region) (hash_size sh) (sorted_at sh s.body.sorted) (sorted_size sh) before after torn
-          (inr (search (arith, hash_before_sorted)));
+      sorted = torn_same (hash_at sh region) (hash_size sh) (sorted_at sh s.body.sorted) (sorted_size sh) before after torn (inr (search (arith, hash_before_sorted)));
     })
 
 -- nor does one in the sorted region that the body does not name

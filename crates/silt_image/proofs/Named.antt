@@ -1,8 +1,8 @@
 -- What an image with stores has.
 use Rattle.std.proofs.lemmas.Bool.{le-leb, leb-true, not-true, eqb-true}
-use Rattle.silt_image.proofs.Common.{◌⊎◌, ◌%◌, ◌≤◌, ◌==◌, Bool, true, false, not, nat_le, ◌&&◌, if◌then◌else◌, sym, ap, ◌∙◌, list_any, and_parts, length-between, bytes_eq-Decides, Shape}
-use Rattle.silt_image.proofs.Common.{InLimits, device_size, is_well_formed, manifest_found, open_record, Body, Digests, SlotRecord, Damage, header_of, header_shape, is_formatted}
-use Rattle.silt_image.proofs.Common.{is_in_limits, Part, log_part, Stores, stores_of_current, stores_shaped, HasStores, Finding, NotFormatted, Damaged, Header, Length}
+use Rattle.silt_image.proofs.Common.{◌⊎◌, ◌%◌, ◌≤◌, ◌==◌, Bool, true, false, not, nat_le, ◌&&◌, if◌then◌else◌, sym, ap, ◌∙◌, list_any, and_parts, length-between, bytes_eq-Decides, Shape, InLimits}
+use Rattle.silt_image.proofs.Common.{device_size, is_well_formed, manifest_found, open_record, Body, Digests, SlotRecord, Damage, header_of, header_shape, is_formatted, is_in_limits, Part}
+use Rattle.silt_image.proofs.Common.{log_part, Stores, stores_of_current, stores_shaped, HasStores, Finding, NotFormatted, Damaged, Header, Length}
 use Rattle.std.proofs.Common.{◌≡◌, ℕ, ◌||◌, List, [], ◌∷◌, length, map, Option, Some, None, Result, Ok, Err, refl, arith}
 use Rattle.silt_manifest.specs.Current.{record_found, greater_record, is_sound_record}
 use Rattle.silt_manifest.specs.declared.slot.Damage.TheVariants as damage
@@ -90,9 +90,8 @@ both_sound_found first second found = if not first then Err (damage.Slot 0) else
 
 -- they succeed if a record is found
 both_sound : (a b : Bool) (r : Result SlotRecord Damage) (found : SlotRecord) → both_sound_found a b r ≡ Ok found → (a ≡ true) × (b ≡ true) × (r ≡ Ok found)
-both_sound false b r found e = absurd (cc)
-both_sound true false r found e = absurd (cc)
 both_sound true true r found e = (refl, refl, e)
+both_sound a b r found e = absurd (cc)
 
 -- the current body is well formed
 pub current_sound : (s : Shape) (image : List ℕ) (found : SlotRecord) → manifest_found s image ≡ Ok found → is_well_formed s (found.body.generation % 2) found.body ≡ true
@@ -106,15 +105,6 @@ current_sound s image found e =
 
 -- ---- the stores
 
--- what the named stores are the stores of
-shape_of_named : (shape : Shape) (body : Body) (image : List ℕ) → (stores_named shape body image).shape ≡ shape
-unfolding stores_named
-shape_of_named shape body image = refl
-
-body_of_named : (shape : Shape) (body : Body) (image : List ℕ) → (stores_named shape body image).body ≡ body
-unfolding stores_named
-body_of_named shape body image = refl
-
 -- a record with these digests
 abbrev pub record_with : Option Digests → Body → SlotRecord
 record_with digests body = record { body = body; digests = digests }
@@ -122,9 +112,10 @@ record_with digests body = record { body = body; digests = digests }
 -- stores that were named are so by their own shape and body
 pub named_has : (image : List ℕ) (s : Stores) (shape : Shape) (found : SlotRecord) → shape_found (length image) (header_of image) ≡ Ok shape
     → manifest_found shape image ≡ Ok found → stores_named shape found.body image ≡ s → HasStores s image
+unfolding stores_named
 named_has image s shape found has_shape has_record same =
-    let is_shape : shape ≡ s.shape = sym (shape_of_named shape found.body image) ∙ ap (λ (t : Stores). t.shape) same in
-    let is_body : found.body ≡ s.body = sym (body_of_named shape found.body image) ∙ ap (λ (t : Stores). t.body) same in
+    let is_shape : shape ≡ s.shape = ap (λ (t : Stores). t.shape) same in
+    let is_body : found.body ≡ s.body = ap (λ (t : Stores). t.body) same in
     record {
       shape = has_shape ∙ ap Ok is_shape;
       digests = found.digests;
@@ -158,18 +149,14 @@ any_part shape image region (id ∷ ids) = ap (λ rest. (id == region) || rest) 
 pub apart_of : (s : Shape) (slot : ℕ) (b : Body) → is_well_formed s slot b ≡ true → list_any (λ id. id == b.active) b.frozen ≡ false
 apart_of s slot b sound = not-true _ (and_parts _ _ (and_parts _ _ (and_parts _ _ (and_parts _ _ (and_parts _ _ (and_parts _ _ sound).0).0).0).1).0).1
 
--- the logs of named stores
-logs_named : (shape : Shape) (body : Body) (image : List ℕ) → (stores_named shape body image).logs ≡ map (log_part shape image) (body.active ∷ body.frozen)
-unfolding stores_named
-logs_named shape body image = refl
-
 -- an image with stores is whole
 pub whole_law : WholeLaw
+unfolding stores_named
 whole_law image s e =
     let has = (stores_law image s).0 e in
     let shaped = shape_parts (length image) (header_of image) s.shape has.shape in
     let sound = current_sound s.shape image (record_with has.digests s.body) has.current in
-    let logs : s.logs ≡ map (log_part s.shape image) (s.body.active ∷ s.body.frozen) = ap (λ (t : Stores). t.logs) has.named ∙ logs_named s.shape s.body image in
+    let logs : s.logs ≡ map (log_part s.shape image) (s.body.active ∷ s.body.frozen) = ap (λ (t : Stores). t.logs) has.named in
     record {
       header = header_is (header_of image) (length-between image 0 37 shaped.long) shaped.formatted;
       has_shape = shaped.is;

@@ -1,7 +1,7 @@
 -- The first finding, as a search comes upon it.
 use Rattle.silt_image.proofs.Common.{zero, suc, ◌+◌, ◌≤◌, true, flat_map, slice_get, ap, ◌∙◌, arith, false, list_all, enumerate_from, and_parts, Shape, has_known_kind, StoredRow, Part}
-use Rattle.silt_image.proofs.Common.{image_digests, charge_findings, said_entry_findings, said_hash_findings, fits_table, row_findings, Finding, Damaged, Crowded, Charge, fits_take}
-use Rattle.silt_image.proofs.Common.{nothing_both, nothing_where_passes}
+use Rattle.silt_image.proofs.Common.{image_digests, charge_findings, said_entry_findings, said_hash_findings, fits_table, row_findings, Finding, Damaged, Crowded, Charge, fits_take, nothing_both}
+use Rattle.silt_image.proofs.Common.{nothing_where_passes}
 use Rattle.std.proofs.Common.{◌≡◌, ℕ, List, [], ◌∷◌, ◌++◌, take, length, Some}
 use Rattle.std.proofs.lemmas.Bool.{lt-ltb}
 use Rattle.std.proofs.lemmas.List.{take-take}
@@ -50,8 +50,7 @@ first_finding_law image s before after part place row finding e logs none first 
     let in_logs : slice_get (flat_map (log_findings s.shape) s.logs) 0 ≡ Some finding = search (arith, flat_map-append, first_behind, first_of_front) in
     let hashes : List Finding = flat_map (said_hash_findings s.shape (image_digests image)) (enumerate_from 0 s.hashes) in
     let entries : List Finding = said_entry_findings (image_digests image) s.entries in
-    verdict_of image s e
-    ∙ first_of_front (flat_map (log_findings s.shape) s.logs ++ hashes ++ entries) (charge_findings s) finding (search (arith, first_of_front))
+    verdict_of image s e ∙ first_of_front (flat_map (log_findings s.shape) s.logs ++ hashes ++ entries) (charge_findings s) finding (search (arith, first_of_front))
 
 -- and in one of a known kind without a place
 crowded_row : (shape : Shape) (part : Part) (place : ℕ) (row : StoredRow) → has_known_kind row ≡ true → fits_table shape (take (place + 1) part.rows) ≡ false
@@ -73,11 +72,9 @@ first_slot_law image s before after part finding e logs hashes none found =
     let all : List Finding = flat_map (said_hash_findings s.shape said) (enumerate_from 0 s.hashes) in
     let entries : List Finding = said_entry_findings said s.entries in
     let start : 0 + length before ≡ length before = omega arith in
-    let places : enumerate_from 0 s.hashes ≡ enumerate_from 0 before ++ (length before, part) ∷ enumerate_from (length before + 1) after =
-    search (arith, places_append) in
+    let places : enumerate_from 0 s.hashes ≡ enumerate_from 0 before ++ (length before, part) ∷ enumerate_from (length before + 1) after = search (arith, places_append) in
     let in_hashes : slice_get all 0 ≡ Some finding = search (arith, flat_map-append, first_behind, first_of_front) in
-    verdict_of image s e
-    ∙ first_of_front (flat_map (log_findings s.shape) s.logs ++ all ++ entries) (charge_findings s) finding (search (arith, first_of_front, first_behind))
+    verdict_of image s e ∙ first_of_front (flat_map (log_findings s.shape) s.logs ++ all ++ entries) (charge_findings s) finding (search (arith, first_of_front, first_behind))
 
 -- so is that in the sorted store
 pub first_entry_law : FirstEntryLaw
@@ -93,6 +90,4 @@ unfolding store_findings
 charge_found_law image s e logs hashes entries many =
     let all : List Finding = flat_map (said_hash_findings s.shape (image_digests image)) (enumerate_from 0 s.hashes) in
     let sorted : List Finding = said_entry_findings (image_digests image) s.entries in
-    verdict_of image s e
-    ∙ first_behind (flat_map (log_findings s.shape) s.logs ++ all ++ sorted) (charge_findings s) (Damaged Charge) (search (arith, nothing_both))
-    (search (arith, lt-ltb))
+    verdict_of image s e ∙ first_behind (flat_map (log_findings s.shape) s.logs ++ all ++ sorted) (charge_findings s) (Damaged Charge) (search (arith, nothing_both)) (search (arith, lt-ltb))

@@ -1,11 +1,10 @@
 -- When an image is good, and what it then represents.
-use Rattle.silt_image.proofs.Common.{Bool, true, false, not, nat_lt, if◌then◌else◌, flat_map, slice_get, IsTrue, sym, ap, ◌∙◌, arith, list_all, enumerate_from, range_with_len, bytes_eq}
-use Rattle.silt_image.proofs.Common.{and_parts, and_from, Shape, StoredRow, first_body, long_record, manifest_found, Digests, Part, Stores, image_digests, stores_of_current, stores_shaped}
-use Rattle.silt_image.proofs.Common.{AreDigestsOf, IsSound, all_logs_fit, charge_findings, charge_of, digest_findings, entries_digest, findings_of, map_where_sound, rows_found}
-use Rattle.silt_image.proofs.Common.{said_entry_findings, said_hash_findings, finding_if, fits_table, row_findings, map_of_rows, Finding, Damaged, Crowded, Place, Sorted, Charge, fine_of}
-use Rattle.silt_image.proofs.Common.{fits_take, of_fine, nothing_both, nothing_first, nothing_second}
+use Rattle.silt_image.proofs.Common.{Bool, true, false, not, nat_lt, if◌then◌else◌, flat_map, slice_get, IsTrue, sym, ap, ◌∙◌, arith, list_all, enumerate_from, range_with_len, bytes_eq, and_parts}
+use Rattle.silt_image.proofs.Common.{and_from, Shape, StoredRow, first_body, long_record, Digests, Part, Stores, image_digests, stores_of_current, stores_shaped, AreDigestsOf, IsSound}
+use Rattle.silt_image.proofs.Common.{all_logs_fit, charge_findings, charge_of, digest_findings, entries_digest, findings_of, map_where_sound, rows_found, said_entry_findings, said_hash_findings}
+use Rattle.silt_image.proofs.Common.{finding_if, fits_table, row_findings, map_of_rows, Finding, Damaged, Crowded, Place, Sorted, Charge, fine_of, fits_take, of_fine, nothing_both, nothing_first}
+use Rattle.silt_image.proofs.Common.{nothing_second}
 use Rattle.std.proofs.Common.{◌≡◌, ◌↔◌, ℕ, ◌-◌, List, [], ◌∷◌, ◌++◌, length, get_or, Option, Some, None, is_some, IsSome, Result, Ok, Err, refl}
-use Rattle.silt_log.specs.Rows.{log_rows}
 use Rattle.silt_frame.specs.Rows.{keys_of}
 use Rattle.silt_image.specs.Stores.{image_stores, stores_named}
 use Rattle.silt_sorted_store.specs.State.{sorted_rows}
@@ -61,8 +60,7 @@ log_damage shape part fit =
 
 hash_damage : (shape : Shape) (part : Part) → list_all is_damage (hash_findings shape part) ≡ true
 unfolding is_damage hash_findings
-hash_damage shape part =
-    all_flat is_damage (λ j. true) (slot_findings shape part) (enumerate_from 0 part.rows) (any_passes (enumerate_from 0 part.rows)) (search (arith, damage_if))
+hash_damage shape part = all_flat is_damage (λ j. true) (slot_findings shape part) (enumerate_from 0 part.rows) (any_passes (enumerate_from 0 part.rows)) (search (arith, damage_if))
 
 sorted_damage : (rows : List StoredRow) → list_all is_damage (sorted_findings rows) ≡ true
 unfolding is_damage sorted_findings
@@ -161,23 +159,6 @@ no_stores_law image finding e = ap (λ r. slice_get (findings_of (image_digests 
 
 -- ---- a device that was just formatted
 
--- the stores that the first body names
-first_logs : (shape : Shape) (image : List ℕ) → log_rows shape 0 image ≡ [] → (stores_named shape first_body image).logs ≡ record { region = 0; rows = [] } ∷ []
-unfolding stores_named
-first_logs shape image none = ap (λ (rows : List StoredRow). record { region = 0; rows = rows } ∷ []) none
-
-first_hashes : (shape : Shape) (image : List ℕ) → (stores_named shape first_body image).hashes ≡ []
-unfolding stores_named
-first_hashes shape image = refl
-
-first_entries : (shape : Shape) (image : List ℕ) → (stores_named shape first_body image).entries ≡ []
-unfolding stores_named sorted_rows
-first_entries shape image = refl
-
-first_shape : (shape : Shape) (image : List ℕ) → (stores_named shape first_body image).shape ≡ shape
-unfolding stores_named
-first_shape shape image = refl
-
 -- stores with one empty log and nothing else have no rows
 no_rows : (s : Stores) (region : ℕ) → s.logs ≡ record { region = region; rows = [] } ∷ [] → s.hashes ≡ [] → s.entries ≡ [] → rows_of s ≡ []
 unfolding rows_of
@@ -193,19 +174,11 @@ first_digests said digests s is digest hashes entries = search arith
 
 -- it represents the empty map
 pub empty_law : EmptyLaw
-unfolding image_stores
+unfolding image_stores stores_named sorted_rows
 empty_law image shape digests has_shape has_record digest none =
     let s : Stores = stores_named shape first_body image in
     let e : image_stores image ≡ Ok s = ap (stores_shaped image) has_shape ∙ ap (stores_of_current shape image) has_record in
-    let logs = first_logs shape image none in
-    let hashes = first_hashes shape image in
-    let entries = first_entries shape image in
-    let is_shape = first_shape shape image in
-    let is_current : manifest_found s.shape image ≡ Ok (long_record first_body digests) = ap (λ (t : Shape). manifest_found t image) is_shape ∙ has_record in
-    let said = digests_law image s (long_record first_body digests) e is_current in
-    let stands = stands_law image s e (nothing_found s 0 logs hashes entries) (first_digests (image_digests image) digests s said digest hashes entries) in
-    record {
-      good = stands.good;
-      has_shape = stands.has_shape ∙ is_shape;
-      has_map = stands.has_map ∙ ap map_of_rows (no_rows s 0 logs hashes entries);
-    }
+    let logs : s.logs ≡ record { region = 0; rows = [] } ∷ [] = ap (λ (rows : List StoredRow). record { region = 0; rows = rows } ∷ []) none in
+    let said = digests_law image s (long_record first_body digests) e has_record in
+    let stands = stands_law image s e (nothing_found s 0 logs refl refl) (first_digests (image_digests image) digests s said digest refl refl) in
+    record { good = stands.good; has_shape = stands.has_shape; has_map = stands.has_map ∙ ap map_of_rows (no_rows s 0 logs refl refl) }
