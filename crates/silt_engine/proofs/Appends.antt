@@ -1,11 +1,11 @@
 -- A row more in the active log, and none.
-use Rattle.silt_engine.proofs.Common.{◌≡◌, ◌≤◌, ◌<◌, ℕ, ◌+◌, true, IsTrue, List, [], ◌∷◌, ◌++◌, map, Some, Ok, refl, ap, sym, ◌∙◌, subst, arith, append_assoc, map-append, ChangesWithin}
-use Rattle.silt_engine.proofs.Common.{Content, LeavesOnly, size, Shape, commits_at, log_size, row_len, Key, Kind, Put, Delete, body_at, log_rows, has_known_kind, stored_row, StoredRow}
-use Rattle.silt_engine.proofs.Common.{keys_of, put_count, puts_of, LogState, all_rows, settled_rows, waiting_rows, all_are_settled_and_waiting, IsLogStore, LogStoreState, Slots}
-use Rattle.silt_engine.proofs.Common.{index_of_keys, Stores, image_stores, IsSound, rows_of, with_log_rows, command_of, map_of_rows, count_law, AreWhole, EngineState, Stands, shown_stores}
-use Rattle.silt_engine.proofs.Common.{waiting_commands, Advances, SameDisk, ◌⊎◌, length, None, inl, inr, Ghosts, Command, map_after, all_count, NextLog, base_map, MovesIntoBase, HasFrozen}
-use Rattle.silt_engine.proofs.Common.{IsNextLog, append_cancel_right, body_in_region, KeepsStore, TakesRow, CanTake, FailsTake, IsFullFor, taken_law, WaitsAlone, WaitsBehind, CannotTake}
-use Rattle.std.proofs.Common.{is_some}
+use Rattle.silt_engine.proofs.Common.{◌≡◌, ◌≤◌, ◌<◌, ℕ, ◌+◌, true, IsTrue, List, [], ◌∷◌, ◌++◌, map, Some, Ok, refl, ap, sym, ◌∙◌, subst, arith, append_assoc, map-append, ChangesWithin, Content}
+use Rattle.silt_engine.proofs.Common.{LeavesOnly, size, Shape, commits_at, log_size, row_len, Key, Kind, Put, Delete, body_at, log_rows, has_known_kind, stored_row, StoredRow, keys_of, put_count}
+use Rattle.silt_engine.proofs.Common.{puts_of, LogState, all_rows, settled_rows, waiting_rows, all_are_settled_and_waiting, IsLogStore, LogStoreState, Slots, index_of_keys, Stores, image_stores}
+use Rattle.silt_engine.proofs.Common.{IsSound, rows_of, with_log_rows, command_of, map_of_rows, count_law, AreWhole, EngineState, Stands, shown_stores, waiting_commands, Advances, SameDisk, inl}
+use Rattle.silt_engine.proofs.Common.{inr, Ghosts, Command, map_after, all_count, NextLog, base_map, MovesIntoBase, HasFrozen, IsNextLog, append_cancel_right, body_in_region, KeepsStore, TakesRow}
+use Rattle.silt_engine.proofs.Common.{CanTake, FailsTake, IsFullFor, taken_law, WaitsAlone, WaitsBehind, CannotTake}
+use Rattle.std.proofs.Common.{is_some, rules}
 use Rattle.std.proofs.lemmas.List.{append-nil}
 use Rattle.silt_log_store.specs.Findings.{fits_table}
 use Rattle.silt_engine.proofs.Named.{named_body, named_shape, own_rows, rows_with_more}
@@ -14,10 +14,11 @@ use Rattle.silt_engine.proofs.Standing.{Fits, after_same, digested_stays, fits_s
 use Rattle.silt_engine.proofs.Standing.{written_stays}
 use Rattle.silt_engine.proofs.Wholes.{whole_with_active, written_with_active}
 use Rattle.silt_log_store.specs.declared.log_store.TakeError.{TakeError}
-use Rattle.silt_log_store.specs.declared.log_store.TakeError.TheVariants.{Full, Read, Write}
+use Rattle.silt_log_store.specs.declared.log_store.TakeError.TheVariants.{Full}
 use Rattle.silt_engine.specs.RowWrite.{HasPlace, NeedsNext, TakeCause, TurnsFor}
 use Rattle.silt_engine.proofs.Chains.{honest_after}
 use Rattle.silt_engine.proofs.Exits.{broke_off}
+use Rattle.silt_engine.proofs.Elsewhere.{honest_old, honest_new}
 
 -- the stores with another active log and another charge
 abbrev pub with_active : EngineState → LogStoreState → ℕ → EngineState
@@ -30,27 +31,17 @@ module _ (old new : Content) (s : EngineState) (after : LogStoreState) (more : L
     (settled : IsTrue old.honest → settled_rows new after.log ≡ settled_rows old s.active.log) (all : IsTrue old.honest → all_rows new after.log ≡ all_rows old s.active.log ++ more)
     (sound : IsTrue old.honest → IsSound (with_log_rows s.manifest.current.active (all_rows old s.active.log ++ more) (shown_stores old s)))
     (counted : charge ≡ s.charge + put_count more) (most : charge ≤ s.manifest.shape.sorted_capacity) where
-  was : IsTrue new.honest → IsTrue old.honest
-  was h = subst IsTrue changes.honest h
-
-  there : IsTrue old.honest → IsTrue new.honest
-  there h = subst IsTrue (sym changes.honest) h
-
   -- the rows wait behind the others
   pub waits : IsTrue old.honest → waiting_rows new after.log ≡ waiting_rows old s.active.log ++ more
   waits h = after_same (settled_rows old s.active.log) _ _ (
-      ap (λ (rows : List StoredRow). rows ++ waiting_rows new after.log) (sym (settled h))
-      ∙ sym (all_are_settled_and_waiting new after.log is.log.bounds.order)
-      ∙ all h
-      ∙ ap (λ (rows : List StoredRow). rows ++ more) (rows_split old s stands)
-      ∙ append_assoc (settled_rows old s.active.log) (waiting_rows old s.active.log) more
+      cc (settled h, all_are_settled_and_waiting new after.log is.log.bounds.order, all h, rows_split old s stands, append_assoc (settled_rows old s.active.log) (waiting_rows old s.active.log) more)
       )
 
   -- each possible crash image has the stores that were shown
   named : LeavesOnly new (λ image. image_stores image ≡ Ok (shown_stores old s))
   named = record {
     each = λ h image left. (named_with old new s stands sizes changes _ images).each h image left
-        ∙ ap Ok (own_rows (shown_stores old s) s.manifest.current.active (settled_rows old s.active.log) [] (active_is old s stands) (has_active old s stands (was h)));
+        ∙ ap Ok (own_rows (shown_stores old s) s.manifest.current.active (settled_rows old s.active.log) [] (active_is old s stands) (has_active old s stands (honest_old changes h)));
   }
 
   whole : AreWhole (with_active s after charge)
@@ -72,13 +63,13 @@ module _ (old new : Content) (s : EngineState) (after : LogStoreState) (more : L
     same_shape = named_shape _ _ _;
     same_body = named_body _ _ _;
     named = named;
-    sound = λ h. rw (← (all (was h))) at (sound (was h));
-    said = λ h. stands.said (was h);
+    sound = λ h. rw (← (all (honest_old changes h))) at (sound (honest_old changes h));
+    said = λ h. stands.said (honest_old changes h);
     counted = λ h. cc (
-      stands.counted (was h),
+      stands.counted (honest_old changes h),
       count_law (rows_of (shown_stores old s) ++ waiting_rows old s.active.log) more,
       append_assoc (rows_of (shown_stores old s)) (waiting_rows old s.active.log) more,
-      waits (was h),
+      waits (honest_old changes h),
     );
   }
 
@@ -93,7 +84,7 @@ module _ (old new : Content) (s : EngineState) (after : LogStoreState) (more : L
       base =
           base_is new (with_active s after charge)
           ∙ ap (λ (t : Stores). map_of_rows (rows_of t)) (shown_are new (with_active s after charge) (shown_stores old s) (named_shape s.manifest.shape s.manifest.current old.shown)
-          (named_body s.manifest.shape s.manifest.current old.shown) named (there h))
+          (named_body s.manifest.shape s.manifest.current old.shown) named (honest_new changes h))
           ∙ sym (base_is old s);
     };
   }
@@ -133,9 +124,6 @@ module _ (old new : Content) (s : EngineState) (after : LogStoreState) (kind : K
     region_same : after.log.region ≡ s.active.log.region
     region_same = ap (λ (l : LogState). l.region) takes.log.log
 
-    ready : IsTrue old.honest → IsTrue new.honest
-    ready h = subst IsTrue (sym changes.honest) h
-
     -- nothing is found with the row
     pub row_sound : IsTrue old.honest → IsSound (with_log_rows s.manifest.current.active (all_rows old s.active.log ++ stored_row kind key value ∷ []) (shown_stores old s))
     row_sound h =
@@ -143,18 +131,20 @@ module _ (old new : Content) (s : EngineState) (after : LogStoreState) (kind : K
         let rows : List StoredRow = all_rows old s.active.log in
         let one : List StoredRow = stored_row kind key value ∷ [] in
         let is_shape : t.shape ≡ s.manifest.shape = named_shape s.manifest.shape s.manifest.current old.shown in
-        let table : IsTrue (fits_table after.log.shape (rows ++ one)) = table_fits after.log.shape (rows ++ one) after.table (ap (λ (r : List StoredRow).
-        index_of_keys after.log.shape.buckets (keys_of r)) (sym (takes.log.all h)) ∙ takes.stands.index.indexed (ready h)) in
-        let fits : IsTrue (fits_table t.shape (rows ++ one)) = subst (λ (sh : Shape). IsTrue (fits_table sh (rows ++ one))) (shape_same ∙ stands.whole.has_shape ∙ sym is_shape) table in
+        let table : IsTrue (fits_table after.log.shape (rows ++ one)) = table_fits after.log.shape (rows ++ one) after.table
+        (cc (takes.log.all h, takes.stands.index.indexed (honest_new changes h))) in
+        let fits : IsTrue (fits_table t.shape (rows ++ one)) = rw ((shape_same ∙ stands.whole.has_shape ∙ sym is_shape)) at table in
         let sound : IsSound (with_log_rows s.manifest.current.active rows t) = subst (λ (n : ℕ). IsSound (with_log_rows n rows t)) stands.whole.active_region (stands.sound h) in
         let all_of : rows_of (with_log_rows s.manifest.current.active (rows ++ one) t) ≡ (rows_of t ++ waiting_rows old s.active.log) ++ one =
-        ap (λ (r : List StoredRow). rows_of (with_log_rows s.manifest.current.active r t))
-        (ap (λ (r : List StoredRow). r ++ one) (rows_split old s stands) ∙ append_assoc (settled_rows old s.active.log) (waiting_rows old s.active.log) one)
-        ∙ rows_with_more t _ _ [] (active_is old s stands) (has_active old s stands h) _
-        ∙ sym (append_assoc (rows_of t) (waiting_rows old s.active.log) one) in
+        cc (
+          rows_split old s stands,
+          append_assoc (settled_rows old s.active.log) (waiting_rows old s.active.log) one,
+          rows_with_more t _ _ [] (active_is old s stands) (has_active old s stands h) _,
+          append_assoc (rows_of t) (waiting_rows old s.active.log) one,
+        )
+        in
         let charged : put_count (rows_of (with_log_rows s.manifest.current.active (rows ++ one) t)) ≡ s.charge + puts_of kind =
-        ap put_count all_of ∙ count_law (rows_of t ++ waiting_rows old s.active.log) one ∙ ap (λ (n : ℕ). n + put_count one) (sym (stands.counted h))
-        ∙ ap (λ (n : ℕ). s.charge + n) (counted_stored kind key value) in
+        cc (count_law (rows_of t ++ waiting_rows old s.active.log) one, stands.counted h, counted_stored kind key value) in
         taken_law t s.manifest.current.active rows (stored_row kind key value) sound (known_stored kind key value) fits (omega (arith, charged, ap (λ (sh : Shape). sh.sorted_capacity) is_shape, most))
 
     pub appended : Advances (command_of (stored_row kind key value) ∷ []) old new s (with_active s after charge)
@@ -204,18 +194,13 @@ turns_for command old middle_content new before middle after next key disk needs
 
 -- the active log cannot take a row if its store is full for the key
 cannot_take : (content : Content) (s : EngineState) (key : List ℕ) → Stands content s → IsFullFor content s.active key → CannotTake s.manifest.shape (all_rows content s.active.log) key
-cannot_take content s key stands full =
-    let rows : List StoredRow = all_rows content s.active.log in
-    subst (λ (sh : Shape). (length rows ≡ sh.log_capacity) ⊎ (index_of_keys sh.buckets (keys_of rows ++ key ∷ []) ≡ None)) stands.whole.has_shape
-    (subst (λ (n : ℕ). (n ≡ s.active.log.shape.log_capacity) ⊎ (index_of_keys s.active.log.shape.buckets (keys_of rows ++ key ∷ []) ≡ None)) (sym (all_count content s.active.log)) full)
+cannot_take content s key stands full = search (rules, arith, all_count, stands.whole.has_shape)
 
 -- the active log had a place for a row that its store took
 pub has_place : (content : Content) (s : EngineState) (key : List ℕ) → Stands content s → CanTake content s.active key → HasPlace content s key
 has_place content s key stands can honest cannot =
     let rows : List StoredRow = all_rows content s.active.log in
-    let full : IsFullFor content s.active key =
-    subst (λ (n : ℕ). (n ≡ s.active.log.shape.log_capacity) ⊎ (index_of_keys s.active.log.shape.buckets (keys_of rows ++ key ∷ []) ≡ None)) (all_count content s.active.log)
-    (subst (λ (sh : Shape). (length rows ≡ sh.log_capacity) ⊎ (index_of_keys sh.buckets (keys_of rows ++ key ∷ []) ≡ None)) (sym stands.whole.has_shape) cannot) in
+    let full : IsFullFor content s.active key = rw (← stands.whole.has_shape, all_count content s.active.log) at cannot in
     absurd (elim full [
       | inl none ↦ omega (arith, none, can.room)
       | inr gone ↦ let is = can.placed honest in let not_is = ap is_some gone in cc
@@ -228,5 +213,4 @@ module _ {D F : Type 0} (facts : Ghosts D F) (old new : D) (s : EngineState) (af
       → LeavesOnly (facts.content new) (λ image. log_rows s.active.log.shape s.active.log.region image ≡ settled_rows (facts.content old) s.active.log)
       → after ≡ s.active → (error : TakeError F) → FailsTake facts old new s.active after key.0 error → TakeCause facts old new s (with_active s after s.charge) key.0 error
   not_taken stands sizes changes images same Full fails = ((ap (λ (l : LogStoreState). with_active s l s.charge) same, fails.0), λ h. cannot_take _ s key.0 stands (fails.1 h))
-  not_taken stands sizes changes images same (Read fault) fails = search arith
-  not_taken stands sizes changes images same (Write fault) fails = search (arith, broke_off, not_appended)
+  not_taken stands sizes changes images same error fails = search (rules, arith, broke_off, not_appended)

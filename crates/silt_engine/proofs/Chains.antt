@@ -1,6 +1,7 @@
 -- One call after another.
+use Rattle.std.proofs.Common.{rules}
 use Rattle.silt_engine.proofs.Common.{arith, IsTrue, List, [], ◌++◌, sym, ◌∙◌, subst, append_assoc, Content, Shape, Command, Map, StandsFor, image_map, map_after-append, EngineState, Stands}
-use Rattle.silt_engine.proofs.Common.{base_map, full_image, waiting_commands, Advances, Breaks, HoldsPrefix, MovesIntoBase, Remaps, SameDisk}
+use Rattle.silt_engine.proofs.Common.{base_map, full_image, waiting_commands, Advances, Breaks, HoldsPrefix, Remaps, SameDisk}
 use Rattle.std.proofs.lemmas.List.{append-nil}
 use Rattle.silt_engine.proofs.Facts.{base_safe, full_map}
 
@@ -15,22 +16,20 @@ honest_before a b same h = subst IsTrue same.honest h
 pub honest_after : (a b : Content) → SameDisk a b → IsTrue a.honest → IsTrue b.honest
 honest_after a b same h = subst IsTrue (sym same.honest) h
 
--- what two calls move
-pub moves_trans : (one two : List Command) (a b c : Content) (first second third : EngineState) → MovesIntoBase one a b first second
-    → MovesIntoBase two b c second third → MovesIntoBase (one ++ two) a c first third
-moves_trans one two a b c first second third m n = record {
-  moved = m.moved ++ n.moved;
-  rest = cc (append_assoc m.moved n.moved (waiting_commands c third), n.rest, append_assoc m.moved (waiting_commands b second) two, m.rest, append_assoc (waiting_commands a first) one two);
-  base = cc (n.base, m.base, map_after-append (base_map a first) m.moved n.moved);
-}
-
 -- two calls that advance
 pub advances_trans : (one two : List Command) (a b c : Content) (first second third : EngineState) → SameDisk a b → Advances one a b first second
     → Advances two b c second third → Advances (one ++ two) a c first third
 advances_trans one two a b c first second third same m n = record {
   stands = n.stands;
   shape = n.shape ∙ m.shape;
-  moves = λ h. moves_trans one two a b c first second third (m.moves h) (n.moves (honest_after a b same h));
+  moves = λ h.
+      let f = m.moves h in
+      let g = n.moves (honest_after a b same h) in
+      record {
+        moved = f.moved ++ g.moved;
+        rest = cc (append_assoc f.moved g.moved (waiting_commands c third), g.rest, append_assoc f.moved (waiting_commands b second) two, f.rest, append_assoc (waiting_commands a first) one two);
+        base = cc (g.base, f.base, map_after-append (base_map a first) f.moved g.moved);
+      };
 }
 
 -- a call that advances, and one that breaks
@@ -56,16 +55,7 @@ remaps_trans one two a b c first second third same m n h = cc (n (honest_after a
 
 -- a call that advances changes the map by its commands
 pub advances_remap : (adds : List Command) (a b : Content) (first second : EngineState) → SameDisk a b → Stands a first → Advances adds a b first second → Remaps adds a b first second
-advances_remap adds a b first second same stands m h =
-    let moves = m.moves h in
-    cc (
-      full_map b second m.stands (honest_after a b same h),
-      moves.base,
-      map_after-append (base_map a first) moves.moved (waiting_commands b second),
-      moves.rest,
-      map_after-append (base_map a first) (waiting_commands a first) adds,
-      full_map a first stands h,
-    )
+advances_remap adds a b first second same stands m h = search (rules, arith, full_map, honest_after, map_after-append)
 
 -- and if it adds none, each possible crash image has a beginning of what waited
 pub advances_break : (a b : Content) (first second : EngineState) → SameDisk a b → Advances [] a b first second → Breaks a b first

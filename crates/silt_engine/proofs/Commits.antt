@@ -1,39 +1,29 @@
 -- A freeze: the record that names the new log, and the stores once it is current.
-use Rattle.silt_engine.proofs.Common.{inl, ◌≡◌, ◌<◌, ℕ, IsTrue, List, [], length, refl, ap, sym, ◌∙◌, subst, arith, IfSome, All-cons, Content, LeavesOnly, size, Shape, device_size, slot_at}
-use Rattle.silt_engine.proofs.Common.{shown_left, first_rows, log_rows, StoredRow, all_rows, all_count, none_waiting, IsLogStore, LogStoreState, HasWritten, ManifestState, spare_slot, Body}
-use Rattle.silt_engine.proofs.Common.{Digests, Stores, stores_named, HasActive, IsSound, rows_of, with_log_rows, map_of_rows, whole_law, NextLog, AreWhole, IsSettled, EngineState}
-use Rattle.silt_engine.proofs.Common.{oldest_log, IsFrozen, Stands, shown_stores, Advances, IsQuiet, own_digests, HasFrozen, IsEmptied, names_region, MayBecomeCurrent, BecomesCurrent}
-use Rattle.silt_engine.proofs.Common.{IsNextLog, FreezesActive, freeze_law, new_active_law, new_log_law, frozen_law, active_replaced, ChangesOnlyActive}
+use Rattle.silt_engine.proofs.Common.{inl, ◌≡◌, ℕ, IsTrue, List, [], refl, ap, sym, ◌∙◌, subst, arith, All-cons, Content, LeavesOnly, size, Shape, device_size, slot_at, shown_left, first_rows}
+use Rattle.silt_engine.proofs.Common.{log_rows, StoredRow, all_rows, all_count, none_waiting, IsLogStore, LogStoreState, ManifestState, spare_slot, Body, Digests, Stores, stores_named, HasActive}
+use Rattle.silt_engine.proofs.Common.{IsSound, rows_of, with_log_rows, map_of_rows, whole_law, NextLog, AreWhole, IsSettled, EngineState, IsFrozen, Stands, shown_stores, Advances, IsQuiet}
+use Rattle.silt_engine.proofs.Common.{own_digests, HasFrozen, IsEmptied, names_region, MayBecomeCurrent, BecomesCurrent, IsNextLog, freeze_law, new_active_law, new_log_law, frozen_law}
+use Rattle.silt_engine.proofs.Common.{active_replaced, ChangesOnlyActive}
 use Rattle.silt_log.specs.Rows.{rows_from}
 use Rattle.silt_image.specs.Meaning.{with_new_log}
 use Rattle.silt_engine.proofs.Named.{named_body, named_shape, own_rows}
 use Rattle.silt_engine.proofs.Facts.{base_is, shown_named, shown_sound}
-use Rattle.silt_engine.proofs.Elsewhere.{length-log_rows, outside_slot}
+use Rattle.silt_engine.proofs.Elsewhere.{length-log_rows, outside_slot, honest_old}
 use Rattle.silt_engine.proofs.Standing.{Fits}
 use Rattle.silt_engine.proofs.Wholes.{merging_in, oldest_behind, under_way_in, written_in}
 use Rattle.silt_engine.proofs.NextBodies.{now_named, succeeds}
 use Rattle.silt_engine.proofs.Turns.{digested_stays, frozen_stays, hashed_stays, located_stays, merged_stays, written_stays}
 use Rattle.silt_engine.proofs.Counting.{may_follow}
 use Rattle.silt_engine.proofs.Flushes.{quiet}
-use Rattle.silt_engine.proofs.Freezes.{below_two, store_elsewhere}
+use Rattle.silt_engine.proofs.Freezes.{store_elsewhere}
 use Rattle.silt_engine.proofs.Said.{frozen_said}
-
--- the stores with a new log have the next body
-new_shape : (body : Body) (t : Stores) → (with_new_log body t).shape ≡ t.shape
-unfolding with_new_log
-new_shape body t = refl
-
-new_body : (body : Body) (t : Stores) → (with_new_log body t).body ≡ body
-unfolding with_new_log
-new_body body t = refl
 
 -- an active log on which nothing waits has the rows of a frozen one
 settled_frozen : (content : Content) (store : LogStoreState) → IsLogStore content store → store.log.settled ≡ store.log.used → IsFrozen content store
 settled_frozen content store is settled = record {
   rows = λ h.
-      let rows : log_rows store.log.shape store.log.region content.shown ≡ all_rows content store.log =
-      is.log.images.each h content.shown (shown_left content) ∙ ap (λ (n : ℕ). first_rows store.log.shape store.log.region content.shown n) settled in
-      sym (all_count content store.log) ∙ ap length (sym rows) ∙ length-log_rows store.log.shape store.log.region content.shown;
+      let rows : log_rows store.log.shape store.log.region content.shown ≡ all_rows content store.log = search (arith, shown_left, is.log.images.each) in
+      cc (all_count content store.log, length-log_rows store.log.shape store.log.region content.shown);
   indexed = is.index;
 }
 
@@ -53,9 +43,6 @@ module _ (old : Content) (s : EngineState) (next : NextLog) (digests : Digests) 
   t_body : (shown_stores old s).body ≡ s.manifest.current
   t_body = named_body _ _ _
 
-  freezes : FreezesActive (shown_stores old s).body next.body
-  freezes = search (arith, t_body)
-
   -- the stores under it
   abbrev frozen_stores : Stores
   frozen_stores = with_new_log next.body (shown_stores old s)
@@ -67,16 +54,17 @@ module _ (old : Content) (s : EngineState) (next : NextLog) (digests : Digests) 
   names : LeavesOnly old (λ image. stores_named s.manifest.shape next.body image ≡ frozen_stores)
   names = record {
     each = λ h image left. ap (λ (sh : Shape). stores_named sh next.body image) (sym t_shape)
-        ∙ freeze_law image (shown_stores old s) next.body (stands.named.each h image left) freezes
+        ∙ freeze_law image (shown_stores old s) next.body (stands.named.each h image left) (search (arith, t_body))
         (ap (λ (sh : Shape). log_rows sh next.body.active image) t_shape ∙ ap (λ (n : ℕ). log_rows s.manifest.shape n image) (sym store_region) ∙ emptied.images.each h image left);
   }
 
   pub frozen_may_become_current : MayBecomeCurrent old s next.body digests
+  unfolding with_new_log
   frozen_may_become_current = record {
     follows = λ sound. may_follow s next sound emptied.follows;
     stores = frozen_stores;
-    has_shape = new_shape _ _ ∙ t_shape;
-    has_body = new_body _ _;
+    has_shape = t_shape;
+    has_body = refl;
     names = names;
     sound = λ h. frozen_law (shown_stores old s) next.body (shown_sound old s stands h);
     said = λ h. rw (← digests_are) at (frozen_said old s stands h next.body);
@@ -87,12 +75,6 @@ module _ (old : Content) (s : EngineState) (next : NextLog) (digests : Digests) 
   -- ---- once it is_current
 
   module _ (new : Content) (sizes : size new ≡ size old) (m : ManifestState) (now : BecomesCurrent old new s next.body digests m) where
-    slot_below : spare_slot s.manifest < 2
-    slot_below = below_two _
-
-    back : IsTrue new.honest → IsTrue old.honest
-    back h = subst IsTrue now.changes.honest h
-
     -- the stores in memory afterwards
     abbrev after : EngineState
     after = active_replaced s m next.store
@@ -130,14 +112,11 @@ module _ (old : Content) (s : EngineState) (next : NextLog) (digests : Digests) 
 
     old_active : IsLogStore new s.active
     old_active = store_elsewhere old new s.active (slot_at (spare_slot s.manifest)) 4096 (record { log = stands.active; index = stands.indexed })
-        (stands.has_size ∙ ap device_size (sym stands.whole.has_shape)) sizes (outside_slot s.active.log.shape s.active.log.region (spare_slot s.manifest) slot_below) now.changes
+        (stands.has_size ∙ ap device_size (sym stands.whole.has_shape)) sizes (outside_slot s.active.log.shape s.active.log.region (spare_slot s.manifest) (omega arith)) now.changes
 
     next_active : IsLogStore new next.store
     next_active = store_elsewhere old new next.store (slot_at (spare_slot s.manifest)) 4096 emptied.stands
-        (stands.has_size ∙ ap device_size (sym store_shape)) sizes (outside_slot next.store.log.shape next.store.log.region (spare_slot s.manifest) slot_below) now.changes
-
-    written_after : IfSome s.converting (HasWritten new (oldest_log after))
-    written_after = written_in new s _ _ (oldest_behind s.active s.frozen next.store s.active) stands.whole.under_way (written_stays old new s stands sizes now.changes)
+        (stands.has_size ∙ ap device_size (sym store_shape)) sizes (outside_slot next.store.log.shape next.store.log.region (spare_slot s.manifest) (omega arith)) now.changes
 
     fits : Fits new after frozen_stores
     unfolding with_new_log frozen_may_become_current
@@ -147,21 +126,21 @@ module _ (old : Content) (s : EngineState) (next : NextLog) (digests : Digests) 
       idle = now.idle;
       current = now.current;
       active = next_active;
-      frozen = All-cons (IsFrozen new) s.active s.frozen (settled_frozen new s.active old_active is_quiet.settled) (frozen_stays old new s stands sizes now.changes);
+      frozen = All-cons (IsFrozen new) s.active s.frozen (settled_frozen new _ old_active is_quiet.settled) (frozen_stays old new s stands sizes now.changes);
       hashed = hashed_stays old new s stands sizes now.changes;
       located = located_stays old new s stands sizes now.changes;
       digested = digested_stays old new s stands sizes now.changes;
-      written = written_after;
+      written = written_in new s _ _ (oldest_behind s.active s.frozen next.store s.active) stands.whole.under_way (written_stays old new s stands sizes now.changes);
       merged = merged_stays old new s stands sizes now.changes;
       same_shape = frozen_may_become_current.has_shape ∙ sym now.has_shape;
       same_body = frozen_may_become_current.has_body ∙ sym now.has_body;
-      named = now_named old new s next.body digests stands frozen_may_become_current sizes m now;
+      named = now_named old new s _ _ stands frozen_may_become_current sizes m now;
       sound = λ h.
-          let own : with_log_rows m.current.active [] frozen_stores ≡ frozen_stores =
-          own_rows frozen_stores m.current.active [] [] (ap (λ (b : Body). b.active) (frozen_may_become_current.has_body ∙ sym now.has_body)) (now_active (back h)) in
-          subst (λ (rows : List StoredRow). IsSound (with_log_rows m.current.active rows frozen_stores)) (sym new_rows) (subst IsSound (sym own) (frozen_may_become_current.sound (back h)));
-      said = λ h. rw (← now.has_digests) at (frozen_may_become_current.said (back h));
-      counted = λ h. cc (stands.counted (back h), none_waiting old s.active.log is_quiet.settled, none_waiting new next.store.log none_used, frozen_rows);
+          let own : with_log_rows m.current.active [] frozen_stores ≡ frozen_stores = search (arith, own_rows, frozen_may_become_current, now_active, honest_old now.changes) in
+          subst (λ (rows : List StoredRow). IsSound (with_log_rows m.current.active rows frozen_stores)) (sym new_rows)
+          (subst IsSound (sym own) (frozen_may_become_current.sound (honest_old now.changes h)));
+      said = λ h. rw (← now.has_digests) at (frozen_may_become_current.said (honest_old now.changes h));
+      counted = λ h. cc (stands.counted (honest_old now.changes h), none_waiting old s.active.log is_quiet.settled, none_waiting new next.store.log none_used, frozen_rows);
     }
 
     pub frozen_advances : Advances [] old new s (active_replaced s m next.store)

@@ -1,9 +1,9 @@
 -- A conversion whose slots are all written: the stores in which its hash store replaces the oldest log.
-use Rattle.silt_engine.proofs.Common.{◌≡◌, ◌≢◌, ◌<◌, ℕ, ◌-◌, ◌*◌, IsTrue, List, ◌++◌, length, get_or, Option, Some, Ok, ap, sym, ◌∙◌, subst, arith, IfSome, get_or-map, length-map}
-use Rattle.silt_engine.proofs.Common.{IsBucketCount, Content, Shape, log_rows, StoredRow, put_count, all_rows, waiting_rows, IsFrozenStore, bucket_count_is, Body, Part, known_rows, Stores}
-use Rattle.silt_engine.proofs.Common.{image_stores, hash_rows, IsSound, part_digest, rows_of, with_log_rows, map_of_rows, whole_law, count_law, ConversionState, HasWritten, IsDigestOf}
-use Rattle.silt_engine.proofs.Common.{converted_rows, HasOldest, IsTableOf, converted_charge, IsUnderWay, EngineState, oldest_log, region_of, IsFrozen, Stands, base_map, shown_stores}
-use Rattle.silt_engine.proofs.Common.{converted_body, ReplacesLog, with_converted, all_charged, all_digested, all_due}
+use Rattle.silt_engine.proofs.Common.{◌≡◌, ◌≢◌, ◌<◌, ℕ, ◌-◌, ◌*◌, IsTrue, List, ◌++◌, length, get_or, Option, Some, Ok, ap, sym, ◌∙◌, subst, arith, IfSome, get_or-map, length-map, Content, log_rows}
+use Rattle.silt_engine.proofs.Common.{StoredRow, put_count, all_rows, waiting_rows, IsFrozenStore, bucket_count_is, Body, Part, known_rows, Stores, image_stores, hash_rows, IsSound, part_digest}
+use Rattle.silt_engine.proofs.Common.{rows_of, with_log_rows, map_of_rows, whole_law, count_law, ConversionState, HasWritten, IsDigestOf, converted_rows, HasOldest, IsTableOf, converted_charge}
+use Rattle.silt_engine.proofs.Common.{IsUnderWay, EngineState, oldest_log, region_of, IsFrozen, Stands, base_map, shown_stores, converted_body, ReplacesLog, with_converted, all_charged}
+use Rattle.silt_engine.proofs.Common.{all_digested, all_due}
 use Rattle.silt_engine.proofs.ConvertStores.{converts, oldest_named, oldest_named_with, rows_converted, rows_named}
 use Rattle.silt_engine.proofs.Named.{named_body, named_here, named_shape, with_shape}
 use Rattle.silt_engine.proofs.Facts.{base_is, shown_named, shown_sound}
@@ -52,9 +52,7 @@ module _ (content : Content) (s : EngineState) (stands : Stands content s) (some
   -- in each possible crash image
   pub oldest_stands : IsFrozenStore content (oldest_log s)
   oldest_stands = record {
-    images = record {
-      each = λ h image left. oldest_rows image ∙ same_rows h image (stands.named.each h image left) ∙ shown_rows h;
-    };
+    images = record { each = λ h image left. oldest_rows image ∙ same_rows h image (stands.named.each h image left) ∙ shown_rows h };
     index = oldest_frozen.indexed;
   }
 
@@ -108,7 +106,7 @@ module _ (content : Content) (s : EngineState) (stands : Stands content s) (conv
       let log_shape : (oldest_log s).log.shape ≡ t.shape = oldest_shape _ s stands way.some_frozen ∙ sym t_shape in
       let indexed = (oldest_frozen _ s stands way.some_frozen).indexed in
       rw (← log_shape) (record {
-        count = subst (λ (sh : Shape). IsBucketCount sh.buckets) (sym log_shape) (bucket_count_is t.shape.buckets (whole_law content.shown t (shown_named content s stands h)).limits.buckets);
+        count = rw (← log_shape) at (bucket_count_is t.shape.buckets (whole_law content.shown t (shown_named content s stands h)).limits.buckets);
         known = indexed.known h;
         indexed = indexed.indexed h;
       })
@@ -129,11 +127,10 @@ module _ (content : Content) (s : EngineState) (stands : Stands content s) (conv
   pub ending_full_sound : IsTrue content.honest → IsSound (with_log_rows s.manifest.current.active (all_rows content s.active.log) ending_stores)
   ending_full_sound h =
       let all : List StoredRow = all_rows content s.active.log in
-      let same : full.shape ≡ t.shape = with_shape s.manifest.current.active all t in
+      let same : full.shape ≡ t.shape = with_shape _ all t in
       let sound : IsSound full = subst (λ (n : ℕ). IsSound (with_log_rows n all t)) stands.whole.active_region (stands.sound h) in
       let is = (converts full ending_body rows (oldest_log s).table conversion.region (oldest_full h) (rw (← same) at (table_of h)) sound).sound in
-      subst IsSound (sym (rows_converted s.manifest.current.active all ending_body ending_part t))
-      (subst (λ (sh : Shape). IsSound (with_converted ending_body (record { region = conversion.region; rows = converted_rows sh (oldest_log s).table rows }) full)) same is)
+      search (arith, rows_converted)
 
   module _ (done : conversion.next ≡ 4 * conversion.shape.buckets) where
     same_shape : conversion.shape ≡ t.shape

@@ -1,13 +1,13 @@
 -- A slot of a conversion, written, and the slots settled.
-use Rattle.silt_engine.proofs.Common.{◌≡◌, ◌≢◌, ◌<◌, ℕ, ◌+◌, ◌*◌, false, IsTrue, List, [], Option, Ok, inl, inr, refl, ap, ◌∙◌, subst, arith, IfSome, ChangesWithin, Content, LeavesOnly}
-use Rattle.silt_engine.proofs.Common.{LiesOutside, Torn, size, Shape, entries_len, commits_at, hash_at, hash_size, log_len, row_len, slots_len, sorted_at, shown_left, torn_wider}
-use Rattle.silt_engine.proofs.Common.{regions_apart, up_least, current_record_elsewhere, Stores, image_stores, pieces_apart, ConversionState, HasWritten, hash_slot_at, IsUnderWay}
-use Rattle.silt_engine.proofs.Common.{EngineState, names_hash, oldest_log, Stands, shown_stores, Advances, Breaks, Remaps, SameDisk, Settles, Stays, failed_sync_within}
-use Rattle.silt_engine.proofs.Common.{left_after_failed_sync, left_after_sync, sync_within, free_hash_law, behind_logs}
+use Rattle.silt_engine.proofs.Common.{◌≡◌, ◌≢◌, ◌<◌, ℕ, ◌+◌, ◌*◌, false, IsTrue, List, [], Option, Ok, inl, inr, refl, ap, ◌∙◌, subst, arith, IfSome, ChangesWithin, Content, LeavesOnly, LiesOutside}
+use Rattle.silt_engine.proofs.Common.{Torn, size, Shape, entries_len, commits_at, hash_at, hash_size, log_len, row_len, slots_len, sorted_at, shown_left, torn_wider, regions_apart, up_least}
+use Rattle.silt_engine.proofs.Common.{current_record_elsewhere, Stores, image_stores, pieces_apart, ConversionState, HasWritten, hash_slot_at, IsUnderWay, EngineState, names_hash, oldest_log}
+use Rattle.silt_engine.proofs.Common.{Stands, shown_stores, Advances, Breaks, Remaps, SameDisk, Settles, Stays, failed_sync_within, left_after_failed_sync, left_after_sync, sync_within}
+use Rattle.silt_engine.proofs.Common.{free_hash_law, behind_logs}
 use Rattle.silt_hash_store.proofs.Reading.{slot_inside}
 use Rattle.silt_engine.proofs.Named.{named_body, named_shape}
 use Rattle.silt_engine.proofs.Facts.{active_below}
-use Rattle.silt_engine.proofs.Elsewhere.{named_below, not_among, IsApart, IsOutsideMerge, IsPastSlots, IsPastEntries, on_some}
+use Rattle.silt_engine.proofs.Elsewhere.{named_below, not_among, IsApart, IsPastEntries, on_some}
 use Rattle.silt_engine.proofs.Chains.{advances_break, advances_remap}
 use Rattle.silt_engine.proofs.Freezes.{merged_on, stays_on, stays_with}
 
@@ -60,10 +60,6 @@ module _ (old new : Content) (s : EngineState) (region slot : ℕ) (stands : Sta
   slot_apart : IsTrue old.honest → IsApart s.manifest.shape s.manifest.current (hash_slot_at s.manifest.shape region slot) (row_len s.manifest.shape)
   slot_apart h = search (arith, behind_logs, named_below, slot_elsewhere, not_among, entries_behind)
 
-  slot_before_entries : IsOutsideMerge s (hash_slot_at s.manifest.shape region slot) (row_len s.manifest.shape)
-  slot_before_entries = on_some (IsPastEntries s.manifest.shape (hash_slot_at s.manifest.shape region slot) (row_len s.manifest.shape)) _
-      (λ merge. entries_behind _ region slot _ there below)
-
   outside_active : LiesOutside (commits_at s.manifest.shape s.manifest.current.active) (log_len s.manifest.shape) (hash_slot_at s.manifest.shape region slot) (row_len s.manifest.shape)
   outside_active = behind_logs s.manifest.shape s.manifest.current.active region slot (active_below old s stands)
 
@@ -72,7 +68,7 @@ module _ (old new : Content) (s : EngineState) (region slot : ℕ) (stands : Sta
       → Advances [] old new s (record s { converting = converting })
   slot_advances converting under_way written = stays_with old new s _ _ stands sizes changes slot_apart outside_active _ _ _ refl refl refl stands.idle
       (current_record_elsewhere _ _ _ old new (omega (arith, stands.has_size)) (inr (omega arith)) changes stands.current) slot_named under_way written
-      stands.whole.merging (merged_on old new s _ _ stands sizes changes slot_apart outside_active (λ h. slot_before_entries))
+      stands.whole.merging (merged_on old new s _ _ stands sizes changes slot_apart outside_active (λ h. search (arith, on_some, entries_behind)))
 
   pub slot_map : (converting : Option ConversionState) → IfSome converting (IsUnderWay s) → IfSome converting (HasWritten new (oldest_log s))
       → Remaps [] old new s (record s { converting = converting })
@@ -86,10 +82,8 @@ module _ (old new : Content) (s : EngineState) (region slot : ℕ) (stands : Sta
 module _ (old new : Content) (s : EngineState) (stands : Stands old s) (sizes : size new ≡ size old) where
   -- if nothing is changed, and each image has the same stores, the stores still stand
   still_advances : ChangesWithin 0 0 old new → LeavesOnly new (λ image. image_stores image ≡ Ok (shown_stores old s)) → Advances [] old new s s
-  still_advances changes named = stays_on old new s 0 0 stands sizes changes (λ h. record
-      { frozen = λ id there. inl (omega arith); hashed = λ id there. inl (omega arith); sorted = inl (omega arith) }) (inl (omega arith)) (λ h. on_some (IsPastSlots
-      s.manifest.shape 0 0) _ (λ conversion. inl (omega arith))) (λ h. on_some (IsPastEntries s.manifest.shape 0 0) _ (λ merge. inl (omega arith))) _ refl refl refl
-      stands.idle (current_record_elsewhere _ 0 0 old new (omega (arith, stands.has_size)) (inl (omega arith)) changes stands.current) named
+  still_advances changes named = stays_on old new s 0 0 stands sizes changes (search arith) (inl (omega arith)) (search (arith, on_some)) (λ h. on_some (IsPastEntries s.manifest.shape 0 0) _ (λ
+      merge. inl (omega arith))) _ refl refl refl stands.idle (current_record_elsewhere _ 0 0 old new (omega (arith, stands.has_size)) (inl (omega arith)) changes stands.current) named
 
   pub sync_advances : Settles old new → Advances [] old new s s
   sync_advances settles = still_advances (sync_within 0 0 settles) (record {

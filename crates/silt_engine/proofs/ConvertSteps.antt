@@ -1,11 +1,9 @@
 -- The steps of a conversion, at their exits.
-use Rattle.silt_engine.proofs.Common.{◌≡◌, ◌<◌, ℕ, ◌+◌, ◌-◌, ◌*◌, ◌^◌, ◌==◌, true, if◌then◌else◌, List, [], length, replicate, Option, Some, None, refl, ap, sym, ◌∙◌, subst, arith, IfSome}
-use Rattle.silt_engine.proofs.Common.{eq-eqb, ne_eqb, get_or_from_slice_get, slice_get_within, ChangesWithin, Content, CountsFault, size, Ghosts, InLimits, row_len, IsFrozenStore}
-use Rattle.silt_engine.proofs.Common.{LogStoreState, bucket_count_is, is_well_formed, current_slot, Body, Digests, Digest, HashState, ConversionState, HasWritten, IsDigestOf, hash_slot_at}
-use Rattle.silt_engine.proofs.Common.{Progress, Finished, Idle, Moved, AreWhole, IsUnderWay, EngineState, names_hash, oldest_log, Stands, Advances, Breaks, Remaps, AreAllHashesNamed}
-use Rattle.silt_engine.proofs.Common.{EndsConversion, convert_turn, converted_body, is_work, cases_eq, GaveAny, FailsStep, Steps, Waiting, digests_with, ConvertErrorCause, Converts}
-use Rattle.silt_engine.proofs.Common.{IsLowestFreeHash, progress_due, written_by}
-use Rattle.silt_conversion.specs.declared.conversion.StepError.TheVariants as step_error
+use Rattle.silt_engine.proofs.Common.{◌≡◌, ◌<◌, ℕ, ◌+◌, ◌-◌, ◌*◌, ◌^◌, ◌==◌, true, if◌then◌else◌, List, [], length, replicate, Option, Some, None, refl, ap, sym, ◌∙◌, subst, arith, eq-eqb, ne_eqb}
+use Rattle.silt_engine.proofs.Common.{get_or_from_slice_get, slice_get_within, ChangesWithin, Content, CountsFault, size, Ghosts, InLimits, row_len, IsFrozenStore, LogStoreState, bucket_count_is}
+use Rattle.silt_engine.proofs.Common.{is_well_formed, current_slot, Body, Digests, Digest, HashState, ConversionState, HasWritten, IsDigestOf, hash_slot_at, Progress, Finished, Idle, Moved}
+use Rattle.silt_engine.proofs.Common.{AreWhole, IsUnderWay, EngineState, names_hash, oldest_log, Stands, Advances, Breaks, Remaps, AreAllHashesNamed, EndsConversion, convert_turn, converted_body}
+use Rattle.silt_engine.proofs.Common.{cases_eq, GaveAny, FailsStep, Steps, Waiting, digests_with, ConvertErrorCause, Converts, IsLowestFreeHash, progress_due, written_by}
 use Rattle.std.specs.Prelude.{slice_get}
 use Rattle.std.proofs.lemmas.Option.{slice_get_cases}
 use Rattle.silt_conversion.specs.declared.conversion.StepError.{StepError}
@@ -63,14 +61,12 @@ pub may_finish : (s : EngineState) (body : Body) (digests : Digests) (conversion
 may_finish s body digests conversion digest sorted hashes whole was turn unspent is digested hashes_are sorted_is digests_are = record {
   conversion = conversion;
   was = was;
-  done = all_written s _ was (subst (λ (o : Option ConversionState). IfSome o (IsUnderWay s)) was whole.under_way) turn;
+  done = search (arith, all_written);
   unspent = unspent;
   is = is;
   digest = digest.0;
   digested = digested;
-  digests_are =
-      digests_are ∙ ap (λ (l : List HashState). digests_with (Some digest) l sorted) hashes_are
-      ∙ ap (λ (bytes : List ℕ). digests_with (Some digest) s.hashes (record { 0 = bytes })) sorted_is;
+  digests_are = search (arith, hashes_are);
 }
 
 -- ---- a slot
@@ -100,11 +96,9 @@ module _ (old new : Content) (s : EngineState) (log : LogStoreState) (before aft
     pub way_after : IsUnderWay s after
     way_after = search (arith, way, next_below)
 
-    written_after : HasWritten new (oldest_log s) after
-    written_after = rw log_is at (written (subst (IsFrozenStore old) (sym log_is) (oldest_stands old s stands way.some_frozen)) was_written)
-
     pub step_advances : Advances [] old new s (record s { converting = Some after })
-    step_advances = slot_advances old new s _ _ stands way.free way.there next_below sizes slot_changes _ way_after written_after
+    step_advances = slot_advances old new s _ _ stands way.free way.there next_below sizes slot_changes _ way_after
+        (rw log_is at (written (subst (IsFrozenStore old) (sym log_is) (oldest_stands old s stands way.some_frozen)) was_written))
 
 -- ---- the next slot of the conversion under way
 
@@ -153,10 +147,7 @@ module _ (s : EngineState) (log : LogStoreState) (current : Body) (hashes region
 
   -- no region is free
   pub begin_waits : AreAllHashesNamed hashes current → Converts Waiting s s
-  begin_waits all = record {
-    due = sym (waits_turn s may.none some (no_hash_free s _ may.whole may.sound (rw (may.same_current, may.hashes_are) at all)));
-    done = refl;
-  }
+  begin_waits all = record { due = sym (waits_turn s may.none some (no_hash_free s _ may.whole may.sound (rw (may.same_current, may.hashes_are) at all))); done = refl }
 
   module _ (lowest_read : IsLowestFreeHash hashes current region) where
     pub lowest_here : IsLowestFreeHash s.manifest.shape.hashes s.manifest.current region
@@ -167,11 +158,8 @@ module _ (s : EngineState) (log : LogStoreState) (current : Body) (hashes region
 
     module _ (started : ConversionState) (is : started ≡ record
         { shape = log.log.shape; region = region; tags = replicate (4 * log.log.shape.buckets) None; next = 0; puts = 0; hasher = started.hasher }) (limits : InLimits s.manifest.shape) where
-      log_shape : log.log.shape ≡ s.manifest.shape
-      log_shape = cc ((last_log s log may.read).1, (may.whole.settled (length s.frozen - 1) s.active (omega (arith, some))).has_shape)
-
       pub started_shape : started.shape ≡ s.manifest.shape
-      started_shape = ap (λ (v : ConversionState). v.shape) is ∙ log_shape
+      started_shape = cc (is, (last_log s log may.read).1, (may.whole.settled (length s.frozen - 1) s.active (omega (arith, some))).has_shape)
 
       started_region : started.region ≡ region
       started_region = ap (λ (v : ConversionState). v.region) is
@@ -215,5 +203,4 @@ module _ {D F : Type 0} (facts : Ghosts D F) (old new : D) (before after : Engin
   pub step_cause : (error : StepError F) → FailsStep (GaveAny facts.gave) (CountsFault facts.failures facts.gave old new) old new error
       → after ≡ before → convert_turn before ≡ Moved → Breaks (facts.content old) (facts.content new) before
       → Remaps [] (facts.content old) (facts.content new) before after → ConvertErrorCause facts old new before after (refusal_of_step error)
-  step_cause (step_error.Read fault) fails same turn breaks remaps = (same, fails.0, turn, fails.1)
-  step_cause (step_error.Write fault) fails same turn breaks remaps = (ap is_work turn, record { counted = fails; breaks = breaks; map = remaps })
+  step_cause error fails same turn breaks remaps = search arith

@@ -1,9 +1,9 @@
 -- The stores of a body that names a hash store in place of the oldest log.
-use Rattle.silt_engine.proofs.Common.{◌≡◌, ◌≢◌, ◌<◌, ℕ, ◌+◌, ◌-◌, suc, List, [], ◌∷◌, ◌++◌, length, map, take, get_or, refl, ap, sym, ◌∙◌, arith, ne_eqb, get_or-map, length-map, map-append}
-use Rattle.silt_engine.proofs.Common.{take_all, take_more, take-map, Shape, log_rows, StoredRow, Body, Part, log_part, part_rows, Stores, hash_part, hash_rows, sorted_rows, HasOldest}
-use Rattle.silt_engine.proofs.Common.{converted_body, append_assoc, take-append_seam, flat_map-append, Slots, Map, map_after, IsSound, charge_of, command_of, map_of_rows, known_rows}
-use Rattle.silt_engine.proofs.Common.{oldest_first, put_count, count_law, map_after-append, map_law, finds_nothing, is_sound, nothing_first, converted_rows, IsTableOf, converted_charge}
-use Rattle.silt_engine.proofs.Common.{keeps_rows, ConvertsLaw, nothing_both}
+use Rattle.silt_engine.proofs.Common.{◌≡◌, ◌≢◌, ◌<◌, ℕ, ◌+◌, ◌-◌, suc, List, [], ◌∷◌, ◌++◌, length, map, take, get_or, ap, sym, ◌∙◌, arith, ne_eqb, get_or-map, length-map, map-append, take_all}
+use Rattle.silt_engine.proofs.Common.{take_more, take-map, Shape, log_rows, StoredRow, Body, Part, log_part, part_rows, Stores, hash_part, hash_rows, sorted_rows, HasOldest, converted_body}
+use Rattle.silt_engine.proofs.Common.{append_assoc, take-append_seam, flat_map-append, Slots, Map, map_after, IsSound, charge_of, command_of, map_of_rows, known_rows, oldest_first, put_count}
+use Rattle.silt_engine.proofs.Common.{count_law, map_after-append, map_law, finds_nothing, is_sound, nothing_first, converted_rows, IsTableOf, converted_charge, keeps_rows, ConvertsLaw}
+use Rattle.silt_engine.proofs.Common.{nothing_both}
 use Rattle.silt_image.specs.Stores.{stores_named}
 use Rattle.silt_image.specs.Meaning.{with_log_rows, rows_of}
 use Rattle.silt_engine.specs.Replacements.{with_converted}
@@ -38,15 +38,6 @@ converted_named shape body region rows image some are =
     let entries : List StoredRow = sorted_rows shape body.sorted body.sorted_count image in
     let logs : List Part = map (log_part shape image) (body.active ∷ take (length body.frozen - 1) body.frozen) in
     cc (all_but_last (log_part shape image) body.active body.frozen some)
-
--- shape and body of the stores with it
-pub converted_shape : (body : Body) (part : Part) (t : Stores) → (with_converted body part t).shape ≡ t.shape
-unfolding with_converted
-converted_shape body part t = refl
-
-pub converted_current : (body : Body) (part : Part) (t : Stores) → (with_converted body part t).body ≡ body
-unfolding with_converted
-converted_current body part t = refl
 
 -- other rows of a log, before and after
 pub rows_converted : (region : ℕ) (rows : List StoredRow) (body : Body) (part : Part) (t : Stores)

@@ -1,23 +1,23 @@
 -- The end of a conversion: the record that names the hash store, and the stores once it is current.
-use Rattle.silt_engine.proofs.Common.{inr, ◌≡◌, ◌<◌, ℕ, ◌-◌, IsTrue, List, [], ◌∷◌, ◌++◌, length, map, get_or, Option, Some, None, refl, ap, sym, ◌∙◌, subst, arith, IfSome, take-map}
-use Rattle.silt_engine.proofs.Common.{All-cons, All-take, index_of_keys, IsBucketCount, Content, LeavesOnly, Rests, Torn, size, Shape, device_size, slot_at, left_at_rest, log_rows}
-use Rattle.silt_engine.proofs.Common.{StoredRow, keys_of, all_rows, KeepsRows, log_rows_elsewhere, part_rows, IsFrozenStore, bucket_count_is, ManifestState, spare_slot, Body, Digests}
-use Rattle.silt_engine.proofs.Common.{Stores, stores_named, AreDigestsOf, IsSound, with_log_rows, command_of, whole_law, ConversionState, HasWritten, IsDigestOf, converted_rows, hash_rows}
-use Rattle.silt_engine.proofs.Common.{IsHashStore, IsHeldHash, MergeState, AreWhole, IsHashOf, IsMerging, IsSettled, IsUnderWay, EngineState, oldest_log, region_of, HasGathered, IsFrozen}
-use Rattle.silt_engine.proofs.Common.{Stands, full_image, shown_stores, Advances, MayBecomeCurrent, BecomesCurrent, EndsConversion, MayReplace, converted_body, oldest_replaced, oldest_rows}
-use Rattle.silt_engine.proofs.Common.{store_of, Part, HasOldest, store_stands, oldest_stores_law, AreConverted, Finishes, HasConvertedRows, get_or-append_seam}
+use Rattle.silt_engine.proofs.Common.{inr, ◌≡◌, ℕ, ◌-◌, IsTrue, List, [], ◌∷◌, ◌++◌, length, map, get_or, Option, Some, None, refl, ap, sym, ◌∙◌, subst, arith, IfSome, take-map, All-cons, All-take}
+use Rattle.silt_engine.proofs.Common.{IsBucketCount, Content, LeavesOnly, Rests, Torn, size, Shape, device_size, slot_at, left_at_rest, log_rows, StoredRow, all_rows, KeepsRows, log_rows_elsewhere}
+use Rattle.silt_engine.proofs.Common.{part_rows, IsFrozenStore, bucket_count_is, ManifestState, spare_slot, Body, Digests, Stores, stores_named, AreDigestsOf, IsSound, with_log_rows, command_of}
+use Rattle.silt_engine.proofs.Common.{whole_law, ConversionState, HasWritten, IsDigestOf, converted_rows, hash_rows, IsHashStore, IsHeldHash, MergeState, AreWhole, IsHashOf, IsMerging, IsSettled}
+use Rattle.silt_engine.proofs.Common.{IsUnderWay, EngineState, oldest_log, region_of, HasGathered, IsFrozen, Stands, full_image, shown_stores, Advances, MayBecomeCurrent, BecomesCurrent}
+use Rattle.silt_engine.proofs.Common.{EndsConversion, MayReplace, converted_body, oldest_replaced, oldest_rows, store_of, Part, HasOldest, store_stands, oldest_stores_law, AreConverted, Finishes}
+use Rattle.silt_engine.proofs.Common.{HasConvertedRows, get_or-append_seam}
 use Rattle.silt_engine.proofs.Named.{named_shape}
 use Rattle.silt_engine.proofs.Facts.{shown_named}
-use Rattle.silt_engine.proofs.Elsewhere.{frozen_named, indexed_same, named_below, outside_slot, scanned_all}
+use Rattle.silt_engine.proofs.Elsewhere.{frozen_named, indexed_same, named_below, outside_slot, scanned_all, honest_old}
 use Rattle.silt_engine.proofs.Standing.{Fits, shown_are}
 use Rattle.silt_engine.proofs.Wholes.{merging_in}
 use Rattle.silt_engine.proofs.Counting.{may_end}
 use Rattle.silt_engine.proofs.Turns.{active_stays, digested_stays, frozen_stays, hashed_stays, located_stays, merged_stays, slot_below, waiting_stays, written_stays}
 use Rattle.silt_engine.proofs.NextBodies.{now_named, succeeds}
-use Rattle.silt_engine.proofs.ConvertStores.{converted_named, converted_current, converted_shape, oldest_named}
+use Rattle.silt_engine.proofs.ConvertStores.{converted_named, oldest_named}
 use Rattle.silt_engine.proofs.Said.{converted_said}
-use Rattle.silt_engine.proofs.ConvertDone.{ending_counted, ending_digest, ending_full_sound, ending_map, ending_slots, ending_sound, ending_stores, oldest_frozen, oldest_shape}
-use Rattle.silt_engine.proofs.ConvertDone.{oldest_stands, table_of, way, oldest, oldest_full, some_ids, ids, last_inside}
+use Rattle.silt_engine.proofs.ConvertDone.{ending_counted, ending_digest, ending_full_sound, ending_map, ending_slots, ending_sound, ending_stores, oldest_frozen, oldest_shape, oldest_stands}
+use Rattle.silt_engine.proofs.ConvertDone.{table_of, way, oldest, oldest_full, some_ids, ids, last_inside}
 use Rattle.silt_engine.proofs.MergeDone.{full_is}
 use Rattle.std.proofs.lemmas.List.{length-append}
 use Rattle.silt_image.specs.Meaning.{with_log_rows}
@@ -57,18 +57,6 @@ oldest_same first old s stood stands conversion was was_honest h same =
 
 -- ---- the hash store in front
 
--- of the stores that the next body names
-pub front_named : (shape : Shape) (body : Body) (region : ℕ) (image : List ℕ)
-    → part_rows (get_or (stores_named shape (converted_body body region) image).hashes 0 no_part) ≡ hash_rows shape region image
-unfolding stores_named
-front_named shape body region image = refl
-
--- and of the stores with it
-pub front_converted : (region : ℕ) (rows : List StoredRow) (body : Body) (part : Part) (t : Stores)
-    → part_rows (get_or (with_log_rows region rows (with_converted body part t)).hashes 0 no_part) ≡ part.rows
-unfolding with_log_rows with_converted
-front_converted region rows body part t = refl
-
 -- ---- the body that names the hash store
 
 module _ (old : Content) (s : EngineState) (body : Body) (digests : Digests) (stands : Stands old s) (rests : Rests old) (ends : EndsConversion s body digests) where
@@ -92,16 +80,15 @@ module _ (old : Content) (s : EngineState) (body : Body) (digests : Digests) (st
 
   -- the digests are theirs
   said : IsTrue old.honest → AreDigestsOf (Some digests) converted_stores
-  said h =
-      subst (λ (d : Digests). AreDigestsOf (Some d) converted_stores) (sym ends.digests_are)
-      (converted_said old s stands h _ _ ends.digest (ending_digest old s stands ends.conversion ends.was ends.done ends.digest ends.digested h))
+  said h = subst (λ (d : Digests). AreDigestsOf (Some d) converted_stores) (sym ends.digests_are) (search (arith, converted_said, ending_digest))
 
   pub converted_may_become_current : MayBecomeCurrent old s body digests
+  unfolding with_converted
   converted_may_become_current = record {
     follows = λ sound. may_end s body digests sound stands.whole ends;
     stores = converted_stores;
-    has_shape = converted_shape _ _ _ ∙ named_shape _ _ _;
-    has_body = converted_current _ _ _ ∙ sym ends.is;
+    has_shape = named_shape _ _ _;
+    has_body = sym ends.is;
     names = names;
     sound = ending_sound old s stands _ ends.was;
     said = said;
@@ -112,15 +99,8 @@ module _ (old : Content) (s : EngineState) (body : Body) (digests : Digests) (st
   -- ---- once it is_current
 
   module _ (new : Content) (sizes : size new ≡ size old) (m : ManifestState) (now : BecomesCurrent old new s body digests m) where
-    back : IsTrue new.honest → IsTrue old.honest
-    back h = subst IsTrue now.changes.honest h
-
     current_is : m.current ≡ converted_body s.manifest.current ends.conversion.region
     current_is = now.has_body ∙ ends.is
-
-    -- they are those that the body names
-    held_of : (digest : List ℕ) → IsHeldHash (store_of ends.conversion digest) → IsHashOf s.manifest.shape (store_of ends.conversion digest)
-    held_of digest held = record { has_shape = under_way.has_shape; held = held }
 
     whole : (digest : List ℕ) → IsHeldHash (store_of ends.conversion digest) → AreWhole (oldest_replaced s m ends.conversion digest)
     whole digest held = record {
@@ -129,7 +109,7 @@ module _ (old : Content) (s : EngineState) (body : Body) (digests : Digests) (st
       frozen_regions = cc (take-map region_of (length s.frozen - 1) s.frozen, stands.whole.frozen_regions, ids old s stands under_way.some_frozen, current_is);
       settled = rw (← now.has_shape) at (All-take (IsSettled s.manifest.shape) (length s.frozen - 1) s.frozen stands.whole.settled);
       hash_regions = cc (stands.whole.hash_regions, current_is);
-      hashed = rw (← now.has_shape) at (All-cons (IsHashOf s.manifest.shape) (store_of ends.conversion digest) s.hashes (held_of digest held) stands.whole.hashed);
+      hashed = rw (← now.has_shape) at (All-cons (IsHashOf s.manifest.shape) (store_of ends.conversion digest) s.hashes (record { has_shape = under_way.has_shape; held = held }) stands.whole.hashed);
       sorted = cc (stands.whole.sorted, now.has_shape, current_is);
       held = stands.whole.held;
       under_way = tt;
@@ -148,19 +128,15 @@ module _ (old : Content) (s : EngineState) (body : Body) (digests : Digests) (st
     slots_stay : HasWritten new (oldest_log s) ends.conversion
     slots_stay = rw ends.was at (written_stays old new s stands sizes now.changes)
 
-    -- the oldest log is as it was in each possible crash image
-    log_shape : (oldest_log s).log.shape ≡ s.manifest.shape
-    log_shape = oldest_shape old s stands under_way.some_frozen
-
+    -- the rows of the oldest log are in each possible crash image as they were
     log_rows_stay : IsTrue new.honest → (first image : List ℕ) → length first ≡ size old → Torn (slot_at (spare_slot s.manifest)) 4096 first image
         → log_rows (oldest_log s).log.shape (oldest_log s).log.region image ≡ log_rows (oldest_log s).log.shape (oldest_log s).log.region first
     log_rows_stay h first image long torn =
-        let there_is = named_below old s stands (back h) (oldest_log s).log.region
-        (frozen_named s stands.whole.frozen_regions (length s.frozen - 1) s.active (last_inside old s stands under_way.some_frozen)) in
-        let fits : device_size (oldest_log s).log.shape ≡ length first = ap device_size log_shape ∙ sym stands.has_size ∙ sym long in
+        let there_is = named_below old s stands (honest_old now.changes h) (oldest_log s).log.region (search (arith, frozen_named, last_inside)) in
+        let fits : device_size (oldest_log s).log.shape ≡ length first = ap device_size (oldest_shape old s stands under_way.some_frozen) ∙ sym stands.has_size ∙ sym long in
         log_rows_elsewhere (oldest_log s).log.shape (oldest_log s).log.region (slot_at (spare_slot s.manifest)) 4096 first image
-        (subst (λ (sh : Shape). (oldest_log s).log.region < sh.logs) (sym log_shape) there_is) (omega (arith, fits))
-        (outside_slot (oldest_log s).log.shape (oldest_log s).log.region (spare_slot s.manifest) (slot_below old new s stands sizes now.changes)) torn
+        (rw (← (oldest_shape old s stands under_way.some_frozen)) at there_is) (omega (arith, fits))
+        (search (arith, outside_slot, slot_below)) torn
 
     oldest_stays : IsFrozenStore new (oldest_log s)
     oldest_stays =
@@ -170,11 +146,11 @@ module _ (old : Content) (s : EngineState) (body : Body) (digests : Digests) (st
         record {
           images = record {
             each = λ h image left.
-                let from = now.changes.left (back h) image left in
+                let from = now.changes.left (honest_old now.changes h) image left in
                 log_rows_stay h from.0 image (from.1.size ∙ sym old.sizes) from.2
-                ∙ log_stands.images.each (back h) from.0 from.1
-                ∙ scanned_all old (oldest_log s).log (was.rows (back h))
-                ∙ sym (log_rows_stay h old.shown new.shown refl (now.changes.shown (back h)))
+                ∙ log_stands.images.each (honest_old now.changes h) from.0 from.1
+                ∙ scanned_all old (oldest_log s).log (was.rows (honest_old now.changes h))
+                ∙ sym (log_rows_stay h old.shown new.shown refl (now.changes.shown (honest_old now.changes h)))
                 ∙ sym (scanned_all new (oldest_log s).log (is.rows h));
           };
           index = is.indexed;
@@ -183,7 +159,7 @@ module _ (old : Content) (s : EngineState) (body : Body) (digests : Digests) (st
     -- there are as many buckets as the device has
     count : IsTrue new.honest → IsBucketCount ends.conversion.shape.buckets
     count h =
-        let limits = (whole_law old.shown (shown_stores old s) (shown_named old s stands (back h))).limits in
+        let limits = (whole_law old.shown (shown_stores old s) (shown_named old s stands (honest_old now.changes h))).limits in
         rw (named_shape s.manifest.shape s.manifest.current old.shown ∙ sym under_way.has_shape) at (bucket_count_is (shown_stores old s).shape.buckets limits.buckets)
 
     -- ---- with the digest of what was written
@@ -223,7 +199,7 @@ module _ (old : Content) (s : EngineState) (body : Body) (digests : Digests) (st
         whole = is_whole;
         idle = now.idle;
         current = now.current;
-        active = record { log = keeps.stands; index = indexed_same old new s.active back (λ h. keeps.all (back h)) stands.indexed };
+        active = record { log = keeps.stands; index = indexed_same old new _ (honest_old now.changes) (λ h. keeps.all (honest_old now.changes h)) stands.indexed };
         frozen = All-take (IsFrozen new) (length s.frozen - 1) s.frozen (frozen_stays old new s stands sizes now.changes);
         hashed = All-cons (IsHashStore new) (store_of ends.conversion digest) s.hashes store_is (hashed_stays old new s stands sizes now.changes);
         located = located_stays old new s stands sizes now.changes;
@@ -232,13 +208,14 @@ module _ (old : Content) (s : EngineState) (body : Body) (digests : Digests) (st
         merged = gathered_stays;
         same_shape = converted_may_become_current.has_shape ∙ sym now.has_shape;
         same_body = converted_may_become_current.has_body ∙ sym now.has_body;
-        named = now_named old new s body digests stands converted_may_become_current sizes m now;
+        named = now_named old new s body _ stands converted_may_become_current sizes m now;
         sound = λ h. subst (λ (n : ℕ). IsSound (with_log_rows n (all_rows new s.active.log) converted_stores)) (ap (λ (b : Body). b.active) (sym current_is)) (subst (λ (rows : List
-            StoredRow). IsSound (with_log_rows s.manifest.current.active rows converted_stores)) (sym (keeps.all (back h))) (ending_full_sound old s stands ends.conversion ends.was (back h)));
-        said = λ h. rw (← now.has_digests) at (converted_may_become_current.said (back h));
+            StoredRow). IsSound (with_log_rows s.manifest.current.active rows converted_stores)) (sym (keeps.all (honest_old now.changes h)))
+            (ending_full_sound old s stands _ ends.was (honest_old now.changes h)));
+        said = λ h. rw (← now.has_digests) at (converted_may_become_current.said (honest_old now.changes h));
         counted = λ h. cc (
-          ending_counted old s stands ends.conversion ends.was ends.done (back h) (s.charge - ((oldest_log s).puts - ends.conversion.puts)) refl,
-          waiting_stays old new s stands sizes now.changes (back h),
+          ending_counted old s stands ends.conversion ends.was ends.done (honest_old now.changes h) (s.charge - ((oldest_log s).puts - ends.conversion.puts)) refl,
+          waiting_stays old new s stands sizes now.changes (honest_old now.changes h),
         );
       }
 
@@ -253,18 +230,16 @@ module _ (old : Content) (s : EngineState) (body : Body) (digests : Digests) (st
       -- its slots have the rows that are due
       slots_now : AreWhole (oldest_replaced s m ends.conversion digest) → IsTrue old.honest
           → hash_rows s.manifest.shape ends.conversion.region (full_image new after) ≡ converted_rows s.manifest.shape (oldest_log s).table (all_rows old (oldest_log s).log)
-      unfolding converted_may_become_current
+      unfolding converted_may_become_current stores_named with_log_rows with_converted
       slots_now is_whole h =
           let here : IsTrue new.honest = subst IsTrue (sym now.changes.honest) h in
           let stand : Stands new after = (converted_advances after is_whole refl).stands in
           let fit : Fits new after converted_stores = fits is_whole in
           let front : Stores → List StoredRow = λ t. part_rows (get_or t.hashes 0 no_part) in
           ap (λ (sh : Shape). hash_rows sh ends.conversion.region (full_image new after)) (sym now.has_shape)
-          ∙ sym (front_named m.shape s.manifest.current ends.conversion.region (full_image new after))
           ∙ ap (λ (b : Body). front (stores_named m.shape b (full_image new after))) (sym current_is)
           ∙ ap front (full_is new after stand here)
           ∙ ap (λ (t : Stores). front (with_log_rows m.current.active (all_rows new s.active.log) t)) (shown_are new after converted_stores fit.same_shape fit.same_body fit.named here)
-          ∙ front_converted _ _ _ _ _
           ∙ ap (λ (sh : Shape). converted_rows sh (oldest_log s).table (all_rows old (oldest_log s).log)) (named_shape s.manifest.shape s.manifest.current old.shown)
 
       -- which are the last rows of the log's keys, as the full image had them on a disk that shows the same stores
@@ -276,14 +251,10 @@ module _ (old : Content) (s : EngineState) (body : Body) (digests : Digests) (st
           let table_shape : (shown_stores old s).shape ≡ s.manifest.shape = named_shape s.manifest.shape s.manifest.current old.shown in
           let converted : AreConverted s.manifest.shape rows (hash_rows s.manifest.shape ends.conversion.region (full_image new finished)) = record {
             table = (oldest_log s).table;
-            indexed =
-                ap (λ (l : List StoredRow). index_of_keys s.manifest.shape.buckets (keys_of l)) log_rows_are
-                ∙ ap (λ (sh : Shape). index_of_keys sh.buckets (keys_of (all_rows old (oldest_log s).log))) (sym table_shape)
-                ∙ (table_of old s stands ends.conversion ends.was h).indexed;
+            indexed = cc ((table_of old s stands ends.conversion ends.was h).indexed);
             are = cc (slots_now (subst AreWhole is is_whole) h);
           } in
-          subst (λ (o : Option ConversionState). IfSome o
-          (λ conversion. AreConverted s.manifest.shape rows (hash_rows s.manifest.shape conversion.region (full_image new finished)))) (sym ends.was) converted
+          search arith
 
       -- the conversion is finished
       pub converted_finishes : (finished : EngineState) → finished ≡ oldest_replaced s m ends.conversion digest → Finishes s finished

@@ -1,15 +1,14 @@
 -- Which log regions are free, and how many.
-use Rattle.silt_engine.proofs.Common.{ne_eqb, or_parts, ◌≡◌, ◌≢◌, ◌≤◌, ◌<◌, ℕ, ◌+◌, ◌-◌, ◌%◌, ◌^◌, ◌==◌, true, false, not, nat_lt, suc, zero, List, [], ◌∷◌, length, inl, inr, refl, ap, sym}
-use Rattle.silt_engine.proofs.Common.{◌∙◌, arith, list_any, eqb, and_parts, eq-eqb, eqb-true, lt-ltb, ltb-true, not-true, and_from, Shape, all_below, has_sound_logs, is_distinct}
-use Rattle.silt_engine.proofs.Common.{is_well_formed, Body, AreAllNamed, IsLowestFree, next_body, nat_le, take, Some, subst, nat_tests, length-map, length-take, has_sound_hashes, IsNext}
-use Rattle.silt_engine.proofs.Common.{current_slot, Digests, AreWhole, EngineState, hash_region_of, names_hash, ConversionState, AreAllHashesNamed, EndsConversion, converted_body, le-leb}
-use Rattle.silt_engine.proofs.Common.{IndexedState, EndsMerge, merged_body, NextLog, region_of, IsNextLog, empty_store, AllByRecursion, range_with_len, length-range_with_len, nat_eq_equiv}
-use Rattle.silt_engine.proofs.Common.{HasNoFreeLog}
+use Rattle.silt_engine.proofs.Common.{or_parts, ◌≡◌, ◌≢◌, ◌≤◌, ◌<◌, ℕ, ◌+◌, ◌-◌, ◌%◌, ◌^◌, ◌==◌, true, false, nat_lt, suc, zero, List, [], ◌∷◌, length, refl, ap, sym, ◌∙◌, arith, list_any, eqb}
+use Rattle.silt_engine.proofs.Common.{and_parts, eq-eqb, eqb-true, lt-ltb, ltb-true, not-true, and_from, Shape, all_below, has_sound_logs, is_distinct, is_well_formed, Body, AreAllNamed}
+use Rattle.silt_engine.proofs.Common.{IsLowestFree, next_body, nat_le, take, Some, subst, nat_tests, length-map, length-take, has_sound_hashes, IsNext, current_slot, Digests, AreWhole, EngineState}
+use Rattle.silt_engine.proofs.Common.{hash_region_of, names_hash, ConversionState, AreAllHashesNamed, EndsConversion, converted_body, le-leb, IndexedState, EndsMerge, merged_body, NextLog}
+use Rattle.silt_engine.proofs.Common.{region_of, IsNextLog, empty_store, AllByRecursion, HasNoFreeLog}
 use Rattle.std.specs.List.{IsDistinct}
 use Rattle.std.proofs.lemmas.Bool.{or_cases, or_from}
-use Rattle.std.proofs.lemmas.Map.Made.{length-le_from_is_member}
-use Rattle.std.proofs.lemmas.Map.Steps.{length-le_from_distinct_below}
+use Rattle.std.proofs.lemmas.Map.Steps.{length-le_from_distinct_below, le-length_from_below}
 use Rattle.silt_manifest.proofs.SoundBodies.{sound_parts}
+use Rattle.silt_image.proofs.Named.{apart_of}
 
 -- a test of two numbers from either side
 turned : (a b : ℕ) → eqb a b ≡ eqb b a
@@ -20,29 +19,9 @@ any_turned : (ids : List ℕ) (x : ℕ) → list_any (λ id. id == x) ids ≡ li
 any_turned [] x = refl
 any_turned (id ∷ ids) x = cc (turned id x, any_turned ids x)
 
--- no number from b on is one below it
-above : (a b n : ℕ) → a < b → AllByRecursion (λ y. eqb a y ≡ false) (range_with_len b n)
-above a b zero below = tt
-above a b (suc n) below = (ne_eqb a b (λ e. absurd (omega arith)), above a (b + 1) n (omega arith))
-
-distinct_range : (a n : ℕ) → IsDistinct eqb (range_with_len a n)
-unfolding IsDistinct
-distinct_range a zero = tt
-distinct_range a (suc n) = (above a (a + 1) n (omega arith), distinct_range (a + 1) n)
-
--- a number among those from a on
-in_range : (a n x : ℕ) → list_any (eqb x) (range_with_len a n) ≡ true → x < a + n
-in_range a zero x e = absurd (let no : false ≡ true = e in cc)
-in_range a (suc n) x e = elim (or_cases (eqb x a) (list_any (eqb x) (range_with_len (a + 1) n)) e) [
-  | inl same ↦ omega (arith, eqb-true x a same)
-  | inr rest ↦ omega (arith, in_range (a + 1) n x rest)
-]
-
 -- with all of n regions among them there are as many ids
 pub all_among : (n : ℕ) (ids : List ℕ) → ((region : ℕ) → region < n → list_any (λ id. id == region) ids ≡ true) → n ≤ length ids
-all_among n ids among =
-    let h = length-le_from_is_member nat_eq_equiv (range_with_len 0 n) ids (distinct_range 0 n) (λ x member. sym (any_turned ids x) ∙ among x (let b = in_range 0 n x member in omega arith)) in
-    omega (arith, h, length-range_with_len 0 n)
+all_among n ids among = le-length_from_below ids n (λ x below. sym (any_turned ids x) ∙ among x below)
 
 -- distinct ids in std's words
 apart_from : (ids : List ℕ) (x : ℕ) → list_any (λ other. other == x) ids ≡ false → AllByRecursion (λ y. eqb x y ≡ false) ids
@@ -62,105 +41,54 @@ below_each n (id ∷ ids) all x e = search (arith, below_each n ids, and_parts, 
 pub at_most : (n : ℕ) (ids : List ℕ) → is_distinct ids ≡ true → all_below n ids ≡ true → length ids ≤ n
 at_most n ids distinct all = length-le_from_distinct_below ids n (distinct_ids ids distinct) (below_each n ids all)
 
--- the tests of a well-formed record
+-- the tests of a well-formed record, with those of its logs and of its hash stores one by one
 pub record HasTests (s : Shape) (b : Body) : Type 0 where
   pub generation : b.generation < 2 ^ 63
   pub logs : has_sound_logs s.logs b ≡ true
   pub hashes : has_sound_hashes s.hashes b ≡ true
   pub sorted : nat_lt b.sorted 2 ≡ true
   pub count : nat_le b.sorted_count s.sorted_capacity ≡ true
+  pub fewer : length b.frozen < s.logs
+  pub active : nat_lt b.active s.logs ≡ true
+  pub frozen : all_below s.logs b.frozen ≡ true
+  pub apart : list_any (λ id. id == b.active) b.frozen ≡ false
+  pub distinct : is_distinct b.frozen ≡ true
+  pub most : length b.hashed ≤ s.hashes
+  pub hashed : all_below s.hashes b.hashed ≡ true
+  pub distinct_hashes : is_distinct b.hashed ≡ true
 
-tests_of : (s : Shape) (slot : ℕ) (b : Body) → is_well_formed s slot b ≡ true → HasTests s b
-tests_of s slot b sound = search (arith, and_parts, ltb-true)
+pub tests_of : (s : Shape) (slot : ℕ) (b : Body) → is_well_formed s slot b ≡ true → HasTests s b
+tests_of s slot b sound = let parts = sound_parts s slot b sound in search (arith, and_parts, ltb-true, apart_of s slot b sound)
 
 -- a record of the next generation with such tests is well formed
 next_well_formed : (s : Shape) (b next : Body) → next.generation ≡ b.generation + 1 → b.generation < 2 ^ 63 - 1 → has_sound_logs s.logs next ≡ true → has_sound_hashes s.hashes next ≡ true
     → nat_lt next.sorted 2 ≡ true → nat_le next.sorted_count s.sorted_capacity ≡ true → is_well_formed s ((b.generation + 1) % 2) next ≡ true
 next_well_formed s b next is unspent logs hashes sorted count = search (arith, lt-ltb, eq-eqb, and_from, next.generation)
 
--- what holds of the logs of a well-formed record
-pub record HasSoundLogs (logs : ℕ) (b : Body) : Type 0 where
-  pub generation : b.generation < 2 ^ 63
-  pub fewer : length b.frozen < logs
-  pub active : nat_lt b.active logs ≡ true
-  pub frozen : all_below logs b.frozen ≡ true
-  pub apart : list_any (λ id. id == b.active) b.frozen ≡ false
-  pub distinct : is_distinct b.frozen ≡ true
-
-pub sound_logs : (s : Shape) (slot : ℕ) (b : Body) → is_well_formed s slot b ≡ true → HasSoundLogs s.logs b
-sound_logs s slot b sound =
-    let tests = tests_of s slot b sound in
-    let l1 = and_parts _ _ tests.logs in
-    let l2 = and_parts _ _ l1.0 in
-    let l3 = and_parts _ _ l2.0 in
-    let l4 = and_parts _ _ l3.0 in
-    record {
-      generation = tests.generation;
-      fewer = ltb-true (length b.frozen) s.logs l4.0;
-      active = l4.1;
-      frozen = l3.1;
-      apart = not-true _ l2.1;
-      distinct = l1.1;
-    }
-
--- with every region named all are in use
-pub all_in_use : (s : Shape) (slot : ℕ) (b : Body) → is_well_formed s slot b ≡ true → AreAllNamed s.logs b → length b.frozen + 1 ≡ s.logs
-all_in_use s slot b sound named = omega (arith, all_among s.logs (b.active ∷ b.frozen) named, (sound_logs s slot b sound).fewer)
-
 -- with a free region there is one to spare
 pub one_to_spare : (s : Shape) (slot region : ℕ) (b : Body) → is_well_formed s slot b ≡ true → IsLowestFree s.logs b region → length b.frozen + 1 < s.logs
 one_to_spare s slot region b sound lowest =
-    let parts = sound_logs s slot b sound in
-    let ids : List ℕ = region ∷ b.active ∷ b.frozen in
-    let free_test : nat_lt region s.logs ≡ true = lt-ltb region s.logs lowest.below in
-    let distinct : is_distinct ids ≡ true = and_from _ _ (ap not lowest.free) (and_from _ _ (ap not parts.apart) parts.distinct) in
-    let below : all_below s.logs ids ≡ true = and_from _ _ free_test (and_from _ _ parts.active parts.frozen) in
-    omega (arith, at_most s.logs ids distinct below)
+    let tests = tests_of s slot b sound in
+    let below : nat_lt region s.logs ≡ true = lt-ltb region s.logs lowest.below in
+    omega (arith, at_most s.logs (region ∷ b.active ∷ b.frozen) (cc (lowest.free, tests.apart, tests.distinct)) (cc (below, tests.active, tests.frozen)))
 
 -- the next body is well formed
 pub next_sound : (s : Shape) (slot region : ℕ) (b : Body) → is_well_formed s slot b ≡ true → IsLowestFree s.logs b region → b.generation < 2 ^ 63 - 1
     → is_well_formed s ((b.generation + 1) % 2) (next_body b region) ≡ true
 next_sound s slot region b sound lowest unspent =
     let tests = tests_of s slot b sound in
-    let parts = sound_logs s slot b sound in
-    let fewer : nat_lt (length (b.active ∷ b.frozen)) s.logs ≡ true = lt-ltb (length (b.active ∷ b.frozen)) s.logs (omega (arith, one_to_spare s slot region b sound lowest)) in
+    let fewer : nat_lt (length (b.active ∷ b.frozen)) s.logs ≡ true = lt-ltb _ _ (omega (arith, one_to_spare s slot region b sound lowest)) in
     let below : nat_lt region s.logs ≡ true = lt-ltb region s.logs lowest.below in
-    let frozen : all_below s.logs (b.active ∷ b.frozen) ≡ true = and_from _ _ parts.active parts.frozen in
-    let apart : not (list_any (λ id. id == region) (b.active ∷ b.frozen)) ≡ true = ap not lowest.free in
-    let distinct : is_distinct (b.active ∷ b.frozen) ≡ true = and_from _ _ (ap not parts.apart) parts.distinct in
-    let logs : has_sound_logs s.logs (next_body b region) ≡ true = and_from _ _ (and_from _ _ (and_from _ _ (and_from _ _ fewer below) frozen) apart) distinct in
-    next_well_formed s b (next_body b region) refl unspent logs tests.hashes tests.sorted tests.count
+    next_well_formed s b (next_body b region) refl unspent (cc (lowest.free, tests.active, tests.frozen, tests.apart, tests.distinct)) tests.hashes tests.sorted tests.count
 
 -- ---- hash regions, and the body that names one more
-
--- what holds of the hash stores of a well-formed record
-pub record HasSoundHashes (hashes : ℕ) (b : Body) : Type 0 where
-  pub generation : b.generation < 2 ^ 63
-  pub most : length b.hashed ≤ hashes
-  pub below : all_below hashes b.hashed ≡ true
-  pub distinct : is_distinct b.hashed ≡ true
-
-pub sound_hashes : (s : Shape) (slot : ℕ) (b : Body) → is_well_formed s slot b ≡ true → HasSoundHashes s.hashes b
-sound_hashes s slot b sound =
-    let parts = sound_parts s slot b sound in
-    record {
-      generation = parts.generation;
-      most = parts.hashed_count;
-      below = parts.hashed;
-      distinct = (and_parts _ _ (tests_of s slot b sound).hashes).1;
-    }
-
--- with every region named there are as many hash stores as regions
-pub all_hashes_named : (s : Shape) (slot : ℕ) (b : Body) → is_well_formed s slot b ≡ true → AreAllHashesNamed s.hashes b → length b.hashed ≡ s.hashes
-all_hashes_named s slot b sound named = omega (arith, all_among _ _ named, (sound_hashes s slot b sound).most)
 
 -- with a free region there are fewer
 pub fewer_hashes : (s : Shape) (slot region : ℕ) (b : Body) → is_well_formed s slot b ≡ true → region < s.hashes → names_hash b region ≡ false → length b.hashed < s.hashes
 fewer_hashes s slot region b sound inside free =
-    let parts = sound_hashes s slot b sound in
-    let distinct : is_distinct (region ∷ b.hashed) ≡ true = and_from _ _ (ap not free) parts.distinct in
-    let below : all_below s.hashes (region ∷ b.hashed) ≡ true = and_from _ _ (lt-ltb region s.hashes inside) parts.below in
-    omega (arith, at_most s.hashes (region ∷ b.hashed) distinct below)
+    let tests = tests_of s slot b sound in
+    let below : nat_lt region s.hashes ≡ true = lt-ltb region s.hashes inside in
+    omega (arith, at_most s.hashes (region ∷ b.hashed) (cc (free, tests.distinct_hashes)) (cc (below, tests.hashed)))
 
 -- ---- fewer frozen logs
 
@@ -184,28 +112,22 @@ below_first most [] (suc n) e = refl
 below_first most (id ∷ ids) zero e = refl
 below_first most (id ∷ ids) (suc n) e = search (arith, below_first most ids n, and_parts, and_from)
 
-sound_logs_first : (logs : ℕ) (b : Body) (n generation : ℕ) (hashed : List ℕ) → has_sound_logs logs b ≡ true
-    → has_sound_logs logs (record b { generation = generation; frozen = take n b.frozen; hashed = hashed }) ≡ true
-sound_logs_first logs b n generation hashed sound =
-    let l1 = and_parts _ _ sound in
-    let l2 = and_parts _ _ l1.0 in
-    let l3 = and_parts _ _ l2.0 in
-    let l4 = and_parts _ _ l3.0 in
-    let fewer : nat_lt (length (take n b.frozen)) logs ≡ true = lt-ltb _ _ (omega (arith, ltb-true (length b.frozen) logs l4.0, length-take n b.frozen)) in
-    and_from _ _ (and_from _ _ (and_from _ _ (and_from _ _ fewer l4.1) (below_first logs _ n l3.1)) (ap not (none_of_first _ n _ (not-true _ l2.1)))) (distinct_first _ n l1.1)
+sound_logs_first : (s : Shape) (slot : ℕ) (b : Body) (n generation : ℕ) (hashed : List ℕ) → is_well_formed s slot b ≡ true
+    → has_sound_logs s.logs (record b { generation = generation; frozen = take n b.frozen; hashed = hashed }) ≡ true
+sound_logs_first s slot b n generation hashed sound =
+    let tests = tests_of s slot b sound in
+    let fewer : nat_lt (length (take n b.frozen)) s.logs ≡ true = lt-ltb _ _ (omega (arith, tests.fewer, length-take n b.frozen)) in
+    cc (tests.active, below_first s.logs b.frozen n tests.frozen, none_of_first b.frozen n b.active tests.apart, distinct_first b.frozen n tests.distinct)
 
 -- the body that names a free region in place of the oldest log is well formed
 pub converted_sound_body : (s : Shape) (slot region : ℕ) (b : Body) → is_well_formed s slot b ≡ true → region < s.hashes → names_hash b region ≡ false → b.generation < 2 ^ 63 - 1
     → is_well_formed s ((b.generation + 1) % 2) (converted_body b region) ≡ true
 converted_sound_body s slot region b sound inside free unspent =
-    let most : nat_le (length (region ∷ b.hashed)) s.hashes ≡ true = grind (arith, nat_tests, fewer_hashes s slot region b sound inside free) in
-    let parts = sound_hashes s slot b sound in
-    let distinct : is_distinct (region ∷ b.hashed) ≡ true = and_from _ _ (ap not free) parts.distinct in
-    let below : all_below s.hashes (region ∷ b.hashed) ≡ true = and_from _ _ (lt-ltb region s.hashes inside) parts.below in
-    let hashes : has_sound_hashes s.hashes (converted_body b region) ≡ true = and_from _ _ (and_from _ _ most below) distinct in
     let tests = tests_of s slot b sound in
-    let logs : has_sound_logs s.logs (converted_body b region) ≡ true = sound_logs_first s.logs b (length b.frozen - 1) (b.generation + 1) (region ∷ b.hashed) tests.logs in
-    next_well_formed s b (converted_body b region) refl unspent logs hashes tests.sorted tests.count
+    let most : nat_le (length (region ∷ b.hashed)) s.hashes ≡ true = grind (arith, nat_tests, fewer_hashes s slot region b sound inside free) in
+    let below : nat_lt region s.hashes ≡ true = lt-ltb region s.hashes inside in
+    next_well_formed s b (converted_body b region) refl unspent (sound_logs_first s slot b (length b.frozen - 1) (b.generation + 1) (region ∷ b.hashed) sound)
+    (cc (free, tests.hashed, tests.distinct_hashes)) tests.sorted tests.count
 
 -- ---- of the stores in memory
 
@@ -216,7 +138,7 @@ hash_count s whole = sym (length-map s.hashes hash_region_of) ∙ ap length whol
 -- if every region is named, there is a hash store in each
 pub no_hash_free : (s : EngineState) (slot : ℕ) → AreWhole s → is_well_formed s.manifest.shape slot s.manifest.current ≡ true
     → AreAllHashesNamed s.manifest.shape.hashes s.manifest.current → length s.hashes ≡ s.manifest.shape.hashes
-no_hash_free s slot whole sound named = hash_count s whole ∙ all_hashes_named s.manifest.shape slot s.manifest.current sound named
+no_hash_free s slot whole sound named = omega (arith, hash_count s whole, all_among _ _ named, (tests_of s.manifest.shape slot s.manifest.current sound).most)
 
 -- if one is free, there are fewer
 pub hash_free : (s : EngineState) (slot region : ℕ) → AreWhole s → is_well_formed s.manifest.shape slot s.manifest.current ≡ true
@@ -240,11 +162,11 @@ room_for_hash s current conversion limit whole sound was limit_is most same = se
 merged_sound_body : (s : Shape) (slot count region written : ℕ) (b : Body) → is_well_formed s slot b ≡ true → region < 2 → written ≤ s.sorted_capacity → b.generation < 2 ^ 63 - 1
     → is_well_formed s ((b.generation + 1) % 2) (merged_body b count region written) ≡ true
 merged_sound_body s slot count region written b sound there room unspent =
-    let parts = sound_hashes s slot b sound in
-    let fewer : nat_le (length (take (length b.hashed - count) b.hashed)) s.hashes ≡ true = le-leb _ _ (omega (arith, parts.most, length-take (length b.hashed - count) b.hashed)) in
-    let hashes : has_sound_hashes s.hashes (merged_body b count region written) ≡ true =
-    and_from _ _ (and_from _ _ fewer (below_first s.hashes b.hashed (length b.hashed - count) parts.below)) (distinct_first b.hashed (length b.hashed - count) parts.distinct) in
-    next_well_formed s b (merged_body b count region written) refl unspent (tests_of s slot b sound).logs hashes (lt-ltb region 2 there) (le-leb written s.sorted_capacity room)
+    let tests = tests_of s slot b sound in
+    let newer : ℕ = length b.hashed - count in
+    let fewer : nat_le (length (take newer b.hashed)) s.hashes ≡ true = le-leb _ _ (omega (arith, tests.most, length-take newer b.hashed)) in
+    next_well_formed s b (merged_body b count region written) refl unspent tests.logs
+    (cc (below_first s.hashes b.hashed newer tests.hashed, distinct_first b.hashed newer tests.distinct_hashes)) (lt-ltb region 2 there) (le-leb written s.sorted_capacity room)
 
 -- the record that ends a merge may follow the current one
 pub may_end_merge : (s : EngineState) (body : Body) (digests : Digests) (store : IndexedState)
@@ -254,7 +176,7 @@ may_end_merge s body digests store sound whole ends = search (arith, merged_soun
 -- there are no more hash stores than a manifest has room for
 pub few_hashes : (s : EngineState) (limit : ℕ) → AreWhole s → is_well_formed s.manifest.shape (current_slot s.manifest) s.manifest.current ≡ true
     → limit ≡ s.manifest.shape.hashes → limit ≤ 16 → length s.hashes ≤ 16
-few_hashes s limit whole sound limit_is most = omega (arith, (sound_hashes s.manifest.shape (current_slot s.manifest) s.manifest.current sound).most, limit_is, most, hash_count s whole)
+few_hashes s limit whole sound limit_is most = omega (arith, (tests_of s.manifest.shape (current_slot s.manifest) s.manifest.current sound).most, limit_is, most, hash_count s whole)
 
 -- ---- the stores in memory, and the log that comes next
 
@@ -270,8 +192,8 @@ frozen_count s whole = sym (length-map s.frozen region_of) ∙ ap length whole.f
 pub no_room : (s : EngineState) (slot logs : ℕ) → logs ≡ s.manifest.shape.logs → AreWhole s → is_well_formed s.manifest.shape slot s.manifest.current ≡ true
     → AreAllNamed logs s.manifest.current → HasNoFreeLog s
 no_room s slot logs is whole sound named =
-    let all = all_in_use s.manifest.shape slot s.manifest.current sound (subst (λ (n : ℕ). AreAllNamed n s.manifest.current) is named) in
-    omega (arith, all, frozen_count s whole)
+    let all = all_among s.manifest.shape.logs (s.manifest.current.active ∷ s.manifest.current.frozen) (rw is at named) in
+    omega (arith, all, (tests_of s.manifest.shape slot s.manifest.current sound).fewer, frozen_count s whole)
 
 -- and if one is free
 pub has_room : (s : EngineState) (slot logs region : ℕ) → logs ≡ s.manifest.shape.logs → AreWhole s → is_well_formed s.manifest.shape slot s.manifest.current ≡ true
@@ -291,14 +213,10 @@ is_next s slot logs region next is whole sound lowest unspent body store = recor
   region = region;
   lowest = rw is at lowest;
   spare = has_room s slot logs region is whole sound lowest;
-  unspent = omega (arith, (sound_logs s.manifest.shape slot s.manifest.current sound).generation, unspent);
+  unspent = omega (arith, (tests_of s.manifest.shape slot s.manifest.current sound).generation, unspent);
   body = body;
   store = store;
 }
 
--- the next body has room for its frozen logs
-pub few_frozen : (s : Shape) (slot : ℕ) (b : Body) → is_well_formed s slot b ≡ true → s.logs ≤ 8 → length b.frozen < 16
-few_frozen s slot b sound most = omega (arith, (sound_logs s slot b sound).fewer, most)
-
 pub before_last : (s : Shape) (slot : ℕ) (b : Body) → is_well_formed s slot b ≡ true → b.generation ≢ 2 ^ 63 - 1 → b.generation < 2 ^ 63 - 1
-before_last s slot b sound unspent = omega (arith, (sound_logs s slot b sound).generation, unspent)
+before_last s slot b sound unspent = omega (arith, (tests_of s slot b sound).generation, unspent)

@@ -1,16 +1,23 @@
 -- What a change in one place of the disk leaves of the logs, the hash stores, the entries, the conversion and the merge in other places.
-use Rattle.silt_engine.proofs.Common.{◌≡◌, ◌≢◌, ◌≤◌, ◌<◌, ℕ, ◌+◌, ◌*◌, ◌-◌, ◌%◌, ◌==◌, true, false, IsTrue, List, suc, length, map, get_or, Option, Some, None, inl, inr, ap, sym, ◌∙◌, subst}
-use Rattle.silt_engine.proofs.Common.{arith, All, Contains, IfSome, list_any, get_or-map, length-map, All-drop, list_any_at, ChangesWithin, Content, LiesOutside, size, Shape, device_size}
-use Rattle.silt_engine.proofs.Common.{entries_len, commits_at, hash_at, log_len, log_size, row_len, slot_at, slots_len, sorted_at, regions_apart, up_least, first_rows, row_at, InBounds}
-use Rattle.silt_engine.proofs.Common.{LogState, all_rows, log_inside, log_rows_elsewhere, IsIndexed, LogStoreState, ConversionState, HasWritten, HashState, IsHashStore, pieces_apart}
-use Rattle.silt_engine.proofs.Common.{whole_law, is_well_formed, Body, HasMerged, MergeState, oldest_stores, SortedState, digest_elsewhere, indexed_elsewhere, IsHashOf, IsMerging}
-use Rattle.silt_engine.proofs.Common.{IsUnderWay, EngineState, hash_region_of, oldest_log, region_of, HasGathered, IsDigested, IsFrozen, IsLocated, Stands, shown_stores, entries_behind_log}
-use Rattle.silt_engine.proofs.Common.{length-map-range_with_len, next_region, hash_elsewhere, IsWhole, names_regions, apart_of, merged_elsewhere}
+use Rattle.silt_engine.proofs.Common.{◌≡◌, ◌≢◌, ◌≤◌, ◌<◌, ℕ, ◌+◌, ◌*◌, ◌-◌, ◌%◌, ◌==◌, true, false, IsTrue, List, suc, length, map, get_or, Option, Some, None, inl, inr, ap, sym, ◌∙◌, subst, arith}
+use Rattle.silt_engine.proofs.Common.{All, Contains, IfSome, list_any, get_or-map, length-map, All-drop, list_any_at, ChangesWithin, Content, LiesOutside, size, Shape, device_size, entries_len}
+use Rattle.silt_engine.proofs.Common.{commits_at, hash_at, log_len, log_size, row_len, slot_at, slots_len, sorted_at, regions_apart, up_least, first_rows, row_at, InBounds, LogState, all_rows}
+use Rattle.silt_engine.proofs.Common.{log_inside, log_rows_elsewhere, IsIndexed, LogStoreState, ConversionState, HasWritten, HashState, IsHashStore, pieces_apart, whole_law, is_well_formed, Body}
+use Rattle.silt_engine.proofs.Common.{HasMerged, MergeState, oldest_stores, SortedState, digest_elsewhere, indexed_elsewhere, IsHashOf, IsMerging, IsUnderWay, EngineState, hash_region_of}
+use Rattle.silt_engine.proofs.Common.{oldest_log, region_of, HasGathered, IsDigested, IsFrozen, IsLocated, Stands, shown_stores, entries_behind_log, length-map-range_with_len, next_region}
+use Rattle.silt_engine.proofs.Common.{hash_elsewhere, IsWhole, names_regions, apart_of, merged_elsewhere}
 use Rattle.silt_log.specs.Rows.{log_rows, open_count, rows_from}
 use Rattle.silt_log.proofs.Counts.{count_most}
 use Rattle.silt_conversion.proofs.Elsewhere.{written_elsewhere}
 use Rattle.silt_engine.proofs.Facts.{shown_named}
 use Rattle.silt_engine.proofs.Named.{named_body, named_shape}
+
+-- a disk that obeys the crash model after a change did so before it, and the other way round
+pub honest_old : {at count : ℕ} {old new : Content} → ChangesWithin at count old new → IsTrue new.honest → IsTrue old.honest
+honest_old changes h = subst IsTrue changes.honest h
+
+pub honest_new : {at count : ℕ} {old new : Content} → ChangesWithin at count old new → IsTrue old.honest → IsTrue new.honest
+honest_new changes h = subst IsTrue (sym changes.honest) h
 
 -- ---- places
 
@@ -68,12 +75,8 @@ frozen_elsewhere old new store at count sized changes lies frozen =
     let back : IsTrue new.honest → IsTrue old.honest = λ h. subst IsTrue changes.honest h in
     let same : IsTrue new.honest → log_rows s r new.shown ≡ log_rows s r old.shown =
     λ h. log_rows_elsewhere s r at count old.shown new.shown (lies (back h)).0 (omega (arith, sized)) (lies (back h)).1 (changes.shown (back h)) in
-    let counted : IsTrue new.honest → store.log.used ≡ open_count s r new.shown =
-    λ h. frozen.rows (back h) ∙ sym (length-log_rows s r old.shown) ∙ ap length (sym (same h)) ∙ length-log_rows s r new.shown in
-    record {
-      rows = counted;
-      indexed = indexed_same old new store back (λ h. scanned_all new store.log (counted h) ∙ same h ∙ sym (scanned_all old store.log (frozen.rows (back h)))) frozen.indexed;
-    }
+    let counted : IsTrue new.honest → store.log.used ≡ open_count s r new.shown = λ h. frozen.rows (back h) ∙ sym (length-log_rows s r _) ∙ ap length (sym (same h)) ∙ length-log_rows s r _ in
+    record { rows = counted; indexed = search (arith, indexed_same, scanned_all, frozen.rows) }
 
 -- ---- the regions of frozen logs
 
@@ -95,8 +98,7 @@ module _ (content : Content) (s : EngineState) (stands : Stands content s) (hone
   pub current_sound : is_well_formed s.manifest.shape (s.manifest.current.generation % 2) s.manifest.current ≡ true
   current_sound =
       let whole : IsWhole (shown_stores content s) content.shown = whole_law content.shown (shown_stores content s) (shown_named _ s stands honest) in
-      let here : is_well_formed (shown_stores content s).shape ((shown_stores content s).body.generation % 2) (shown_stores content s).body ≡ true = whole.sound in
-      cc (named_shape s.manifest.shape s.manifest.current content.shown, named_body s.manifest.shape s.manifest.current content.shown)
+      search (arith, named_shape, named_body)
 
   -- each region that it names is there
   pub named_below : (region : ℕ) → Contains s.manifest.current.frozen region → region < s.manifest.shape.logs
@@ -138,15 +140,9 @@ pub log_written_elsewhere : (old new : Content) (store : LogStoreState) (convers
     → HasWritten old store conversion → HasWritten new store conversion
 log_written_elsewhere old new store conversion at count fits there most frozen changes lies is =
     let plain : LogStoreState = record store { log = record store.log { settled = store.log.used; stale = false } } in
-    let plainly : HasWritten old plain conversion = record { shape = is.shape; due = is.due; tagged = is.tagged; charged = is.charged; hashed = is.hashed } in
-    let inside : IsTrue old.honest → commits_at store.log.shape store.log.region + store.log.shape.log_capacity ≤ size old =
-    λ h. omega (arith, log_inside store.log.shape store.log.region (lies h).0, (regions_apart store.log.shape).commits store.log.region, fits) in
-    let bounds : IsTrue old.honest → InBounds plain.log = λ h. record {
-      region = (lies h).0;
-      order = omega arith;
-      room = omega (arith, open_most store.log.shape store.log.region old.shown (inside h), frozen.rows h);
-      gap = λ stale. absurd (let no : false ≡ true = stale in cc);
-    } in
+    let plainly : HasWritten old plain conversion = search arith in
+    let inside : IsTrue old.honest → commits_at store.log.shape store.log.region + store.log.shape.log_capacity ≤ size old = search (arith, log_inside, regions_apart) in
+    let bounds : IsTrue old.honest → InBounds plain.log = search (arith, open_most, frozen.rows) in
     let stays : IsTrue old.honest → HasWritten new plain conversion =
     λ h. written_elsewhere plain conversion old new at count (bounds h) there most (rw (← is.shape) at fits) (lies h).1 (lies h).2 changes plainly in
     record {
@@ -190,15 +186,11 @@ region_before_conversion s region below = search (arith, on_some, slots_behind_l
 
 -- and before the entries of a merge
 pub region_before_merge : (s : EngineState) (region : ℕ) → region < s.manifest.shape.logs → IsOutsideMerge s (commits_at s.manifest.shape region) (log_size s.manifest.shape)
-region_before_merge s region below =
-    on_some (IsPastEntries s.manifest.shape (commits_at s.manifest.shape region) (log_size s.manifest.shape)) _ (λ merge. entries_behind_log _ region _ below)
+region_before_merge s region below = search (arith, on_some, entries_behind_log)
 
 -- a change in such a place leaves what is not in the active log
 module _ (old new : Content) (s : EngineState) (at count : ℕ) (stands : Stands old s) (changes : ChangesWithin at count old new)
     (apart : IsTrue old.honest → IsApart s.manifest.shape s.manifest.current at count) where
-  back : IsTrue new.honest → IsTrue old.honest
-  back h = subst IsTrue changes.honest h
-
   -- the frozen logs
   pub all_frozen_elsewhere : All (IsFrozen new) s.frozen
   all_frozen_elsewhere k d inside =
@@ -218,12 +210,7 @@ module _ (old new : Content) (s : EngineState) (at count : ℕ) (stands : Stands
       let fits : device_size store.shape ≤ size old = rw is.has_shape (omega (arith, stands.has_size)) in
       let stays : IsTrue old.honest → IsHashStore new store = λ h. hash_elsewhere store old new at count is.held fits (rw (← is.has_shape) at ((apart h).hashed
       store.region (hash_named s stands.whole.hash_regions k d inside))) changes (stands.hashed k d inside) in
-      record {
-        sound = λ h. (stays (back h)).sound h;
-        tagged = λ h. (stays (back h)).tagged h;
-        counted = λ h. (stays (back h)).counted h;
-        digested = λ h. (stays (back h)).digested h;
-      }
+      search (arith, honest_old changes)
 
   -- what a conversion has written, if its slots are apart too
   pub written_all_elsewhere : (o : Option ConversionState) → (IsTrue old.honest → IfSome o (IsPastSlots s.manifest.shape at count))
@@ -251,10 +238,10 @@ module _ (old new : Content) (s : EngineState) (at count : ℕ) (stands : Stands
 
   -- their index and their digest
   pub located_elsewhere : IsLocated new s
-  located_elsewhere h = indexed_elsewhere s.sorted s.index old new at count stands.whole.held sorted_inside (sorted_outside (back h)) changes stands.located h
+  located_elsewhere h = indexed_elsewhere s.sorted s.index old new at count stands.whole.held sorted_inside (sorted_outside (honest_old changes h)) changes stands.located h
 
   pub digested_elsewhere : IsDigested new s
-  digested_elsewhere h = digest_elsewhere s.sorted s.digest old new at count stands.whole.held sorted_inside (sorted_outside (back h)) changes stands.digested h
+  digested_elsewhere h = digest_elsewhere s.sorted s.digest old new at count stands.whole.held sorted_inside (sorted_outside (honest_old changes h)) changes stands.digested h
 
   -- what a merge has gathered and written, if its entries are apart too
   pub merged_all_elsewhere : (o : Option MergeState) → (IsTrue old.honest → IfSome o (IsPastEntries s.manifest.shape at count))
@@ -269,13 +256,7 @@ module _ (old new : Content) (s : EngineState) (at count : ℕ) (stands : Stands
       h).hashed (get_or s.hashes k d).region (hash_named s stands.whole.hash_regions k d inside))) in
       let stays : IsTrue old.honest → HasMerged new taken s.sorted merge = λ h. merged_elsewhere taken s.sorted merge old new at count stands.whole.held
       way.held sorted_inside (rw (← is_shape) at (outside h)) (sorted_outside h) (slots h) changes is.0 in (
-        record {
-          shape = is.0.shape;
-          counted = is.0.counted;
-          apart = is.0.apart;
-          hashed = λ h. (stays (back h)).hashed h;
-          merged = λ h. (stays (back h)).merged h;
-        },
+        record { shape = is.0.shape; counted = is.0.counted; apart = is.0.apart; hashed = λ h. (stays (honest_old changes h)).hashed h; merged = λ h. (stays (honest_old changes h)).merged h },
         is.1,
-        λ h. is.2 (back h),
+        λ h. is.2 (honest_old changes h),
       )

@@ -1,6 +1,6 @@
 -- Clauses at exits.
-use Rattle.silt_engine.proofs.Common.{◌≡◌, Result, Ok, Err, sym, subst, EngineState, ◌+◌, ◌%◌, ◌^◌, ℕ, List, [], ◌++◌, refl, ap, ◌∙◌, CountsFault, Ghosts, Command, Stands, Advances}
-use Rattle.silt_engine.proofs.Common.{SameDisk, IfErr, MatchResult, OnOk, BreaksOff, Works, WorksBy, arith, size, ChangesWithin, Makes, MakesAtMost, WroteOr, made_both, most_made, most_none}
+use Rattle.silt_engine.proofs.Common.{◌≡◌, Result, Ok, Err, sym, subst, EngineState, ◌+◌, ◌%◌, ◌^◌, ℕ, List, [], ◌++◌, refl, ap, ◌∙◌, CountsFault, Ghosts, Command, Stands, Advances, SameDisk, IfErr}
+use Rattle.silt_engine.proofs.Common.{MatchResult, OnOk, BreaksOff, Works, WorksBy, arith, size, ChangesWithin, Makes, MakesAtMost, WroteOr, made_both, most_made, most_none}
 use Rattle.std.specs.Result.{IsErrAnd}
 use Rattle.silt_engine.specs.declared.engine.Engine.TheInside.{Inside}
 use Rattle.silt_engine.proofs.Chains.{advances_break, advances_remap, advances_trans, breaks_after, remaps_trans, same_trans, stays_still}
@@ -31,7 +31,7 @@ pub wrote_off : {D F T E : Type 0} {facts : Ghosts D F} {Fails : E → Type 0} {
     → size (facts.content new) ≡ size (facts.content old) → ChangesWithin at count (facts.content old) (facts.content new)
     → MakesAtMost facts.writes facts.syncs w s old new → Fails fault → WroteOr facts Fails at count w s old new r
 wrote_off (Ok x) fault is same changes most fails = absurd is
-wrote_off {Fails = Fails} (Err e) fault is same changes most fails = record { size = same; changes = changes; made = most; failures = subst Fails (sym is) fails }
+wrote_off {Fails = Fails} (Err e) fault is same changes most fails = search arith
 
 -- ---- the stores as their record
 
@@ -74,8 +74,7 @@ nothing_done facts disk s result stands made = went facts [] disk disk s s resul
 pub went_off : {D F T E : Type 0} {MadeOk : T → Type 0} {adds : List Command} {w s : ℕ} (facts : Ghosts D F) (old new : D) (before after : EngineState) (r : Result T E) (error : E)
     → IsErrAnd r (λ e. e ≡ error) → SameDisk (facts.content old) (facts.content new) → after.manifest.shape ≡ before.manifest.shape
     → MakesAtMost facts.writes facts.syncs w s old new → WorksBy facts MadeOk adds w s old new before after r
-went_off facts old new before after (Ok x) error is same shape most = absurd is
-went_off facts old new before after (Err e) error is same shape most = record { same = same; shape = shape; failures = tt; advances = tt; map = tt; made = most }
+went_off facts old new before after r error is same shape most = search arith
 
 -- no call, and an error
 pub refused : {D F T E : Type 0} {MadeOk : T → Type 0} {adds : List Command} {w calls : ℕ} (facts : Ghosts D F) (disk : D) (s : EngineState) (error : E)

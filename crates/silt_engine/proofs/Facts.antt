@@ -1,12 +1,13 @@
 -- What the images of a disk on which the stores stand represent.
-use Rattle.silt_engine.proofs.Common.{◌≡◌, ◌≤◌, ◌<◌, ℕ, ◌+◌, ◌-◌, IsTrue, List, ◌++◌, length, map, replicate, Ok, inr, refl, ap, sym, ◌∙◌, subst, arith, Content, Left, LeavesOnly, Torn}
-use Rattle.silt_engine.proofs.Common.{size, device_size, commits_at, log_size, shown_left, torn_wider, regions_apart, up_least, log_rows, StoredRow, put_count, InBounds, LogState, all_rows}
-use Rattle.silt_engine.proofs.Common.{settled_rows, waiting_rows, all_are_settled_and_waiting, log_inside, Map, map_after, Stores, image_digests, image_stores, HasActive, IsSound, StandsFor}
-use Rattle.silt_engine.proofs.Common.{image_map, rows_of, with_log_rows, command_of, map_of_rows, rows_law, where_found, RecordIsCurrent, EngineState, Stands, current_map, full_image}
-use Rattle.silt_engine.proofs.Common.{shown_stores, length-replicate, torn_splice, torn_slice_before, other_regions, IsGoodWith}
+use Rattle.std.proofs.Common.{rules}
+use Rattle.silt_engine.proofs.Common.{◌≡◌, ◌≤◌, ◌<◌, ℕ, ◌+◌, ◌-◌, IsTrue, List, ◌++◌, length, map, replicate, Ok, inr, refl, ap, sym, ◌∙◌, subst, arith, Content, Left, LeavesOnly, Torn, size}
+use Rattle.silt_engine.proofs.Common.{device_size, commits_at, log_size, shown_left, torn_wider, regions_apart, up_least, log_rows, StoredRow, put_count, InBounds, LogState, all_rows, settled_rows}
+use Rattle.silt_engine.proofs.Common.{waiting_rows, all_are_settled_and_waiting, log_inside, Map, map_after, Stores, image_digests, image_stores, HasActive, IsSound, StandsFor, image_map, rows_of}
+use Rattle.silt_engine.proofs.Common.{with_log_rows, command_of, map_of_rows, rows_law, where_found, RecordIsCurrent, EngineState, Stands, current_map, full_image, shown_stores, length-replicate}
+use Rattle.silt_engine.proofs.Common.{torn_splice, torn_slice_before, other_regions, IsGoodWith}
 use Rattle.silt_log.specs.State as log
 use Rattle.silt_image.specs.Meaning.{image_charge}
-use Rattle.silt_disk.specs.Header.{header_of, version_of}
+use Rattle.silt_disk.specs.Header.{version_of}
 use Rattle.silt_standing.specs.Standing.{base_map}
 use Rattle.silt_engine.proofs.Named.{active_named, map_with_more, named_body, named_here, named_shape, region_torn, rows_with_more, said_with_rows, says_current, sound_settled, stands_for}
 use Rattle.silt_engine.proofs.Named.{stores_map, with_body, with_shape}
@@ -28,8 +29,7 @@ full_torn content l bounds sized =
     let long : length ones ≡ l.used - l.settled = length-replicate (l.used - l.settled) 167 in
     let within : commits_at l.shape l.region + l.settled + length ones ≤ length content.shown =
     omega (arith, long, log_inside l.shape l.region bounds.region, (regions_apart l.shape).commits l.region, bounds.order, bounds.room, sized) in
-    torn_wider (commits_at l.shape l.region) (log_size l.shape) (omega arith) (omega (arith, long, bounds.order, bounds.room, up_least l.shape.log_capacity))
-    (torn_splice (commits_at l.shape l.region + l.settled) ones content.shown within)
+    torn_wider _ _ (omega arith) (omega (arith, long, bounds.order, bounds.room, up_least l.shape.log_capacity)) (torn_splice _ ones _ within)
 
 -- with the commit bytes of a log's waiting rows open, the map of the stores that are shown, of which it is the active one, is that after their
 -- commands
@@ -75,9 +75,7 @@ module _ (content : Content) (s : EngineState) (stands : Stands content s) where
 
   -- nothing is found, also with all rows
   pub all_sound : IsTrue content.honest → IsSound (with_log_rows s.manifest.current.active (settled_rows content s.active.log ++ waiting_rows content s.active.log) (shown_stores content s))
-  all_sound honest =
-      subst (λ (rows : List StoredRow). IsSound (with_log_rows s.manifest.current.active rows (shown_stores content s))) rows_split
-      (subst (λ (n : ℕ). IsSound (with_log_rows n (all_rows content s.active.log) (shown_stores content s))) stands.whole.active_region (stands.sound honest))
+  all_sound honest = search (rules, arith, rows_split, stands.whole.active_region, stands.sound)
 
   -- nothing is found in what is shown
   pub shown_sound : IsTrue content.honest → IsSound (shown_stores content s)
@@ -98,9 +96,8 @@ module _ (content : Content) (s : EngineState) (stands : Stands content s) where
   -- and in the full image
   full_is_current : IsTrue content.honest → RecordIsCurrent s.manifest (full_image content s)
   full_is_current honest =
-      let torn : Torn (commits_at s.active.log.shape s.active.log.region) (log_size s.active.log.shape) content.shown (full_image content s) =
-      full_torn content s.active.log stands.active.bounds active_size in
-      let same_header : header_of (full_image content s) ≡ header_of content.shown =
+      let torn = full_torn content s.active.log stands.active.bounds active_size in
+      let same_header =
       torn_slice_before (commits_at s.active.log.shape s.active.log.region) (log_size s.active.log.shape) content.shown (full_image content s) torn 0 37 (omega arith) (omega arith) in
       ap where_found (other_regions s.manifest.shape (commits_at s.active.log.shape s.active.log.region) (log_size s.active.log.shape)
       content.shown (full_image content s) (omega (arith, active_size)) (inr (omega arith)) torn (ap version_of same_header))
@@ -114,8 +111,7 @@ module _ (content : Content) (s : EngineState) (stands : Stands content s) where
 
   -- the stores of the full image
   pub full_stores : IsTrue content.honest → image_stores (full_image content s) ≡ Ok (with_log_rows s.manifest.current.active (all_rows content s.active.log) (shown_stores content s))
-  full_stores honest = torn_active content.shown (full_image content s) (all_rows content s.active.log) (shown_named honest)
-      (full_torn content s.active.log stands.active.bounds active_size) (stands.active.full honest)
+  full_stores honest = search (rules, arith, torn_active, shown_named, full_torn, active_size, stands.active.bounds, stands.active.full)
 
   -- an image with these rows in the active log: its map
   pub map_with_rows : IsTrue content.honest → (image : List ℕ) (more : List StoredRow)
@@ -128,28 +124,27 @@ module _ (content : Content) (s : EngineState) (stands : Stands content s) where
 
   -- the map of the full image
   pub full_map : IsTrue content.honest → image_map (full_image content s) ≡ current_map content s
-  full_map honest = map_with_rows honest (full_image content s) (waiting_rows content s.active.log)
-      (full_stores honest ∙ ap (λ (rows : List StoredRow). Ok (with_log_rows s.manifest.current.active rows (shown_stores content s))) rows_split)
+  full_map honest = map_with_rows honest (full_image content s) (waiting_rows content s.active.log) (cc (full_stores honest, rows_split))
 
   -- the numbers of the full image
   pub full_numbers : IsTrue content.honest → IsGoodWith s.manifest.shape s.manifest.current s.charge (full_image content s)
   full_numbers honest =
       let t : Stores = with_log_rows s.manifest.current.active (all_rows content s.active.log) (shown_stores content s) in
-      let split : t ≡ with_log_rows s.manifest.current.active (settled_rows content s.active.log ++ waiting_rows content s.active.log) (shown_stores content s) =
-      ap (λ (rows : List StoredRow). with_log_rows s.manifest.current.active rows (shown_stores content s)) rows_split in
+      let split : t ≡ with_log_rows s.manifest.current.active (settled_rows content s.active.log ++ waiting_rows content s.active.log) (shown_stores content s) = search (arith, rows_split) in
       let is : image_stores (full_image content s) ≡ Ok t = full_stores honest in
-      let same_shape : t.shape ≡ s.manifest.shape = with_shape s.manifest.current.active (all_rows content s.active.log) (shown_stores content s)
-      ∙ named_shape s.manifest.shape s.manifest.current content.shown in
+      let same_shape : t.shape ≡ s.manifest.shape = search (arith, with_shape, named_shape) in
       record {
-        stores = is ∙ ap Ok (sym (named_here s.manifest.shape s.manifest.current t (full_image content s) is same_shape
-            (with_body s.manifest.current.active (all_rows content s.active.log) (shown_stores content s) ∙ named_body s.manifest.shape s.manifest.current content.shown)));
+        stores = is ∙ ap Ok (sym (named_here s.manifest.shape s.manifest.current t (full_image content s) is same_shape (search (arith, with_body, named_body))));
         good = (stands_for s.manifest.shape t s.manifest.digests (map_of_rows (rows_of t)) (full_image content s) is same_shape (subst IsSound (sym split) (all_sound honest))
             (said_with_rows s.manifest.digests s.manifest.current.active (all_rows content s.active.log) (shown_stores content s) (stands.said honest))
             (says_held (full_image content s) t is same_shape (full_is_current honest)) refl).good;
-        charged = charge_is (full_image content s) t is ∙ ap (λ (u : Stores). put_count (rows_of u)) split
-            ∙ ap put_count (rows_with_more (shown_stores content s) s.manifest.current.active (settled_rows content s.active.log)
-            (waiting_rows content s.active.log) active_is (has_active honest) (waiting_rows content s.active.log))
-            ∙ sym (stands.counted honest);
+        charged =
+            cc (
+              charge_is (full_image content s) t is,
+              rows_with_more (shown_stores content s) s.manifest.current.active (settled_rows content s.active.log) (waiting_rows content s.active.log) active_is
+                  (has_active honest) (waiting_rows content s.active.log),
+              stands.counted honest,
+            );
       }
 
   -- the map of what is shown
@@ -159,10 +154,7 @@ module _ (content : Content) (s : EngineState) (stands : Stands content s) where
   -- each image represents the base
   pub base_stands : IsTrue content.honest → (image : List ℕ) → image_stores image ≡ Ok (shown_stores content s) → RecordIsCurrent s.manifest image
       → StandsFor s.manifest.shape (base_map content s) image
-  base_stands honest image is is_current =
-      let same_shape = named_shape _ _ _ in
-      stands_for s.manifest.shape (shown_stores content s) s.manifest.digests (base_map content s) image is
-      same_shape (shown_sound honest) (stands.said honest) (says_held image _ is same_shape is_current) (sym (base_is _ s))
+  base_stands honest image is is_current = search (arith, named_shape, stands_for, shown_sound, says_held, base_is, stands.said)
 
   pub base_safe : LeavesOnly content (StandsFor s.manifest.shape (base_map content s))
   base_safe = record { each = λ honest image left. base_stands honest image (stands.named.each honest image left) (left_is_current honest image left) }

@@ -1,8 +1,8 @@
 -- The waiting rows settled, and some of them.
-use Rattle.silt_engine.proofs.Common.{◌≡◌, ◌+◌, ◌-◌, nat_lt, false, IsTrue, List, [], ◌++◌, map, take, drop, Ok, refl, ap, sym, ◌∙◌, subst, arith, map-append, take-append-drop}
-use Rattle.silt_engine.proofs.Common.{ChangesWithin, Content, LeavesOnly, size, commits_at, log_size, log_rows, StoredRow, LogState, all_rows, settled_rows, waiting_rows, none_waiting}
-use Rattle.silt_engine.proofs.Common.{LogStoreState, Stores, image_stores, rows_of, with_log_rows, command_of, EngineState, Stands, full_image, shown_stores, waiting_commands, Advances}
-use Rattle.silt_engine.proofs.Common.{Breaks, Remaps, IsQuiet, ltb-false, commits_in_region, OpensSomeOfStore, OpensStore, again_law}
+use Rattle.silt_engine.proofs.Common.{◌≡◌, ◌+◌, ◌-◌, nat_lt, false, IsTrue, List, [], ◌++◌, map, take, drop, Ok, refl, ap, sym, ◌∙◌, arith, map-append, take-append-drop, ChangesWithin, Content}
+use Rattle.silt_engine.proofs.Common.{LeavesOnly, size, commits_at, log_size, log_rows, StoredRow, LogState, all_rows, settled_rows, waiting_rows, none_waiting, LogStoreState, Stores, image_stores}
+use Rattle.silt_engine.proofs.Common.{rows_of, with_log_rows, command_of, EngineState, Stands, full_image, shown_stores, waiting_commands, Advances, Breaks, Remaps, IsQuiet, ltb-false}
+use Rattle.silt_engine.proofs.Common.{commits_in_region, OpensSomeOfStore, OpensStore, again_law}
 use Rattle.std.proofs.lemmas.List.{append-nil}
 use Rattle.silt_engine.proofs.Named.{map_with_more, named_body, named_shape, rows_with_more, said_with_rows, sound_some, with_body, with_shape}
 use Rattle.silt_engine.proofs.Facts.{active_is, all_sound, base_is, full_map, has_active, map_with_rows, rows_split, stands_with_rows, torn_active}
@@ -10,6 +10,7 @@ use Rattle.silt_engine.proofs.Standing.{Fits, digested_stays, fits_stand, frozen
 use Rattle.silt_engine.proofs.Standing.{written_stays}
 use Rattle.silt_engine.proofs.Appends.{with_active}
 use Rattle.silt_engine.proofs.Wholes.{whole_with_active, written_with_active}
+use Rattle.silt_engine.proofs.Elsewhere.{honest_old, honest_new}
 
 -- nothing waits if all rows are settled
 pub quiet : (content : Content) (s : EngineState) → s.active.log.settled ≡ s.active.log.used → IsQuiet content s
@@ -17,15 +18,8 @@ quiet content s settled = record { settled = settled; none_wait = ap (map comman
 
 module _ (old new : Content) (s : EngineState) (after : LogStoreState) (stands : Stands old s) (sizes : size new ≡ size old)
     (changes : ChangesWithin (commits_at s.active.log.shape s.active.log.region + s.active.log.settled) (s.active.log.used - s.active.log.settled) old new) where
-  was : IsTrue new.honest → IsTrue old.honest
-  was h = subst IsTrue changes.honest h
-
-  there : IsTrue old.honest → IsTrue new.honest
-  there h = subst IsTrue (sym changes.honest) h
-
   changed : ChangesWithin (commits_at s.active.log.shape s.active.log.region) (log_size s.active.log.shape) old new
-  changed = commits_in_region s.active.log.shape s.active.log.region s.active.log.settled (s.active.log.used - s.active.log.settled)
-      old new (omega (arith, stands.active.bounds.order, stands.active.bounds.room)) changes
+  changed = commits_in_region s.active.log.shape _ _ _ old new (omega (arith, stands.active.bounds.order, stands.active.bounds.room)) changes
 
   -- ---- all of them
 
@@ -55,14 +49,10 @@ module _ (old new : Content) (s : EngineState) (after : LogStoreState) (stands :
 
     -- in each image the log has all rows
     images : LeavesOnly new (λ image. log_rows s.active.log.shape s.active.log.region image ≡ settled_rows old s.active.log ++ waiting_rows old s.active.log)
-    images = record {
-      each = λ h image left. cc (shape_same, region_same, opens.stands.log.images.each h image left, opens.log.settled (was h), rows_split old s stands);
-    }
+    images = record { each = λ h image left. cc (shape_same, region_same, opens.stands.log.images.each h image left, opens.log.settled (honest_old changes h), rows_split old s stands) }
 
     named : LeavesOnly new (λ image. image_stores image ≡ Ok now)
-    named = record {
-      each = λ h image left. (named_with old new s stands sizes changed _ images).each h image left ∙ ap Ok (sym now_is);
-    }
+    named = record { each = λ h image left. (named_with old new s stands sizes changed _ images).each h image left ∙ ap Ok (sym now_is) }
 
     -- all rows of the stores
     now_rows : IsTrue old.honest → rows_of now ≡ rows_of (shown_stores old s) ++ waiting_rows old s.active.log
@@ -74,7 +64,7 @@ module _ (old new : Content) (s : EngineState) (after : LogStoreState) (stands :
     fits : Fits new (with_active s after s.charge) now
     fits = record {
       has_size = sizes ∙ stands.has_size;
-      whole = whole_with_active s after s.charge stands.whole shape_same region_same stands.whole.most;
+      whole = whole_with_active s after _ stands.whole shape_same region_same stands.whole.most;
       idle = stands.idle;
       current = current_record_stays old new s stands sizes changed;
       active = opens.stands;
@@ -88,13 +78,12 @@ module _ (old new : Content) (s : EngineState) (after : LogStoreState) (stands :
       same_body = same_body;
       named = named;
       sound = λ h. rw (
-        ← (opens.log.all (was h) ∙ rows_split old s stands),
+        ← (opens.log.all (honest_old changes h) ∙ rows_split old s stands),
         ← (again_law (shown_stores old s) s.manifest.current.active (settled_rows old s.active.log ++ waiting_rows old s.active.log) (all_rows new after.log)),
         ← now_is,
-      ) at (all_sound old s stands (was h));
-      said = λ h. rw (← now_is) at (said_with_rows s.manifest.digests s.manifest.current.active (settled_rows old s.active.log ++ waiting_rows old s.active.log)
-          (shown_stores old s) (stands.said (was h)));
-      counted = λ h. cc (stands.counted (was h), now_rows (was h), append-nil (rows_of now), none);
+      ) at (all_sound old s stands (honest_old changes h));
+      said = λ h. rw (← now_is) at (said_with_rows _ s.manifest.current.active (settled_rows old s.active.log ++ waiting_rows old s.active.log) _ (stands.said (honest_old changes h)));
+      counted = λ h. cc (stands.counted (honest_old changes h), now_rows (honest_old changes h), append-nil (rows_of now), none);
     }
 
     pub flushed : Advances [] old new s (with_active s after s.charge)
@@ -106,7 +95,7 @@ module _ (old new : Content) (s : EngineState) (after : LogStoreState) (stands :
         rest = ap (λ (rows : List StoredRow). waiting_commands old s ++ map command_of rows) none;
         base = cc (
           base_is new (with_active s after s.charge),
-          shown_are new (with_active s after s.charge) now same_shape same_body named (there h),
+          shown_are new (with_active s after s.charge) now same_shape same_body named (honest_new changes h),
           now_is,
           map_with_more (shown_stores old s) s.manifest.current.active (settled_rows old s.active.log) [] (active_is old s stands) (has_active old s stands h) (waiting_rows old s.active.log),
           base_is old s,
@@ -124,7 +113,7 @@ module _ (old new : Content) (s : EngineState) (after : LogStoreState) (stands :
     pub flush_breaks : Breaks old new s
     flush_breaks = record {
       each = λ h image left.
-          let o : IsTrue old.honest = was h in
+          let o : IsTrue old.honest = honest_old changes h in
           let has = opens.log.images.each h image left in
           let waiting : List StoredRow = waiting_rows old s.active.log in
           let some : List StoredRow = take has.0 waiting in
@@ -142,7 +131,7 @@ module _ (old new : Content) (s : EngineState) (after : LogStoreState) (stands :
     pub flush_failed_map : Remaps [] old new s (with_active s after s.charge)
     flush_failed_map h =
         let same : after.log ≡ s.active.log = opens.log.log in
-        let is = full_with old new s stands sizes changed (there h) _ _ refl refl stands.active.bounds (opens.log.full h ∙ rows_split old s stands) in
+        let is = full_with old new s stands sizes changed (honest_new changes h) _ _ refl refl stands.active.bounds (opens.log.full h ∙ rows_split old s stands) in
         cc (map_with_rows old s stands h (full_image new s) (waiting_rows old s.active.log) is, full_map old s stands h)
 
 -- nor if no row waits

@@ -1,8 +1,8 @@
 -- Rows done on a map in memory.
-use Rattle.silt_engine.proofs.Common.{◌≡◌, ◌<◌, ℕ, ◌+◌, ◌*◌, ◌==◌, true, false, List, [], ◌∷◌, ◌++◌, ◌-◌, length, filter, map, take, drop, get_or, Some, None, refl, ap, sym, ◌∙◌, subst}
-use Rattle.silt_engine.proofs.Common.{arith, get-insert, get-remove, nat_list_cmp_total, length-drop, map-append, take_all, take_more, filter-append, get_or_from_slice_get, slice_get_within}
-use Rattle.silt_engine.proofs.Common.{Shape, Key, slot_row, hash_rows, all_before, delete, map_after, put, command_of, oldest_first, map_after-append, entry_row, has_known_kind, StoredRow}
-use Rattle.silt_engine.proofs.Common.{key_cmp, stored_row, Put, AreEntriesOf, DoesRows, empty, get-empty, eq_by_cmp_equiv, drop_more, before_more, HasEntry}
+use Rattle.silt_engine.proofs.Common.{◌≡◌, ◌<◌, ℕ, ◌+◌, ◌*◌, ◌==◌, true, false, List, [], ◌∷◌, ◌++◌, ◌-◌, length, filter, map, take, drop, get_or, Some, None, refl, ap, sym, ◌∙◌, subst, arith}
+use Rattle.silt_engine.proofs.Common.{get-insert, get-remove, nat_list_cmp_total, length-drop, map-append, take_all, take_more, filter-append, get_or_from_slice_get, slice_get_within, Shape, Key}
+use Rattle.silt_engine.proofs.Common.{slot_row, hash_rows, all_before, delete, map_after, put, command_of, oldest_first, map_after-append, entry_row, has_known_kind, StoredRow, key_cmp, stored_row}
+use Rattle.silt_engine.proofs.Common.{Put, AreEntriesOf, DoesRows, empty, get-empty, eq_by_cmp_equiv, drop_more, before_more, HasEntry}
 use Rattle.std.specs.BTreeMap as tree
 use Rattle.std.specs.Ordering.{nat_cmp, eq_by_cmp}
 use Rattle.std.specs.Cmp.Lexicographic.{slice_cmp}
@@ -32,20 +32,14 @@ does_delete row key before after kind same updates m are q =
     let is : command_of row ≡ delete key.0 = cc in
     cc (updates.0 q, are q, tied key.0 q.0, get-remove nat_list_cmp_total m key.0 q.0)
 
--- no row was done
-pub does_none : (entries : BTreeMap Key (List ℕ)) → DoesRows [] entries entries
-does_none entries m are = are
-
 -- further rows were done
 pub does_more : (rows more : List StoredRow) (a b c : BTreeMap Key (List ℕ)) → DoesRows rows a b → DoesRows more b c → DoesRows (rows ++ more) a c
-does_more rows more a b c first second m are =
-    rw (← (ap (map_after m) (map-append command_of rows more) ∙ map_after-append m (map command_of rows) (map command_of more))) at (second (map_after m (map command_of rows)) (first m are))
+does_more rows more a b c first second m are = search (arith, map-append, map_after-append)
 
 -- one more row of some was done
 pub does_next : (rows : List StoredRow) (n : ℕ) (row : StoredRow) (a b c : BTreeMap Key (List ℕ)) → n < length rows → get_or rows n row ≡ row
     → DoesRows (take n rows) a b → DoesRows (row ∷ []) b c → DoesRows (take (n + 1) rows) a c
-does_next rows n row a b c inside is first second =
-    rw (← (take_more rows n row inside ∙ ap (λ (r : StoredRow). take n rows ++ r ∷ []) is)) at (does_more (take n rows) (row ∷ []) a b c first second)
+does_next rows n row a b c inside is first second = rw (← (take_more rows n row inside ∙ ap (λ (r : StoredRow). take n rows ++ r ∷ []) is)) at (does_more (take n rows) (row ∷ []) a b c first second)
 
 -- one more entry was done
 pub does_entry : (rows : List StoredRow) (place : ℕ) (bytes : List ℕ) (key : Key) (value : List ℕ) (a b c : BTreeMap Key (List ℕ)) → HasEntry rows place bytes → key.0 ≡ take 20 bytes
@@ -64,7 +58,7 @@ module _ (shape : Shape) (region : ℕ) (image : List ℕ) where
   -- no slot was done
   pub does_no_slot : (entries : BTreeMap Key (List ℕ)) → DoesRows (filter has_known_kind (rows_before shape region image 0)) entries entries
   unfolding rows_before
-  does_no_slot entries = does_none entries
+  does_no_slot entries m are = are
 
   -- one slot more was done
   pub does_slot : (slot : ℕ) (a b c : BTreeMap Key (List ℕ)) → DoesRows (filter has_known_kind (rows_before shape region image slot)) a b

@@ -1,17 +1,16 @@
 -- The steps of freezing.
-use Rattle.silt_engine.proofs.Common.{◌≡◌, ◌≢◌, ◌<◌, ℕ, ◌%◌, false, IsTrue, List, [], ◌∷◌, suc, map, Option, None, Ok, inr, refl, ap, sym, ◌∙◌, subst, arith, Contains, IfSome}
-use Rattle.silt_engine.proofs.Common.{take-append-drop, ChangesWithin, Content, LeavesOnly, LiesOutside, size, Shape, device_size, commits_at, log_len, log_size, slot_at, within_wider}
-use Rattle.silt_engine.proofs.Common.{up_least, log_rows, StoredRow, all_rows, KeepsRows, waiting_kept, IsLogStore, LogStoreState, ConversionState, HasWritten, ManifestState, IsCurrent}
-use Rattle.silt_engine.proofs.Common.{Body, current_record_elsewhere, map_after, Stores, image_stores, IsSound, with_log_rows, command_of, whole_law, MergeState, IsMerging, IsUnderWay}
-use Rattle.silt_engine.proofs.Common.{EngineState, oldest_log, HasGathered, Stands, base_map, current_map, full_image, shown_stores, waiting_commands, Advances, IsQuiet, names_region}
-use Rattle.silt_engine.proofs.Common.{entries_behind_log, NextLog, IsEmptied, IsNextLog, log_elsewhere, names_log, unnamed_law, EmptiesStore}
+use Rattle.silt_engine.proofs.Common.{◌≡◌, ◌≢◌, ◌<◌, ℕ, false, IsTrue, List, [], ◌∷◌, suc, map, Option, None, Ok, inr, refl, ap, sym, ◌∙◌, subst, arith, Contains, IfSome, take-append-drop}
+use Rattle.silt_engine.proofs.Common.{ChangesWithin, Content, LeavesOnly, LiesOutside, size, Shape, device_size, commits_at, log_len, log_size, slot_at, within_wider, up_least, log_rows, StoredRow}
+use Rattle.silt_engine.proofs.Common.{all_rows, KeepsRows, waiting_kept, IsLogStore, LogStoreState, ConversionState, HasWritten, ManifestState, IsCurrent, Body, current_record_elsewhere, map_after}
+use Rattle.silt_engine.proofs.Common.{Stores, image_stores, IsSound, with_log_rows, command_of, whole_law, MergeState, IsMerging, IsUnderWay, EngineState, oldest_log, HasGathered, Stands, base_map}
+use Rattle.silt_engine.proofs.Common.{current_map, full_image, shown_stores, waiting_commands, Advances, IsQuiet, names_region, entries_behind_log, NextLog, IsEmptied, IsNextLog, log_elsewhere}
+use Rattle.silt_engine.proofs.Common.{names_log, unnamed_law, EmptiesStore}
 use Rattle.std.proofs.lemmas.List.{append-nil}
-use Rattle.std.proofs.Math.Nat.{mod-lt}
 use Rattle.silt_engine.proofs.Named.{named_body, named_shape, region_torn}
 use Rattle.silt_engine.proofs.Facts.{active_size, base_is, shown_named}
-use Rattle.silt_engine.proofs.Elsewhere.{all_frozen_elsewhere, all_hashed_elsewhere, digested_elsewhere, entries_behind_manifest, indexed_same, located_elsewhere, merged_all_elsewhere}
-use Rattle.silt_engine.proofs.Elsewhere.{not_among, outside_other, outside_slot, slots_behind_log, slots_behind_manifest, written_all_elsewhere, IsApart, IsPastSlots, IsPastEntries}
-use Rattle.silt_engine.proofs.Elsewhere.{IsOutsideConversion, IsOutsideMerge, region_before_conversion, region_before_merge, on_some}
+use Rattle.silt_engine.proofs.Elsewhere.{all_frozen_elsewhere, all_hashed_elsewhere, digested_elsewhere, entries_behind_manifest, indexed_same, located_elsewhere, merged_all_elsewhere, not_among}
+use Rattle.silt_engine.proofs.Elsewhere.{outside_other, outside_slot, slots_behind_log, slots_behind_manifest, written_all_elsewhere, IsApart, IsPastEntries, IsOutsideConversion, IsOutsideMerge}
+use Rattle.silt_engine.proofs.Elsewhere.{region_before_conversion, region_before_merge, on_some, honest_old}
 use Rattle.silt_engine.proofs.Standing.{Fits, fits_stand, shown_are}
 use Rattle.silt_engine.proofs.Wholes.{whole_with}
 
@@ -22,10 +21,7 @@ pub store_elsewhere : (old new : Content) (store : LogStoreState) (at count : �
     → LiesOutside (commits_at store.log.shape store.log.region) (log_len store.log.shape) at count → ChangesWithin at count old new → IsLogStore new store
 store_elsewhere old new store at count stands sized sizes outside changes =
     let keeps : KeepsRows old new store.log store.log = log_elsewhere old new _ at count stands.log (omega (arith, sized)) sizes outside changes in
-    record {
-      log = keeps.stands;
-      index = indexed_same old new store (λ h. subst IsTrue changes.honest h) (λ h. keeps.all (subst IsTrue changes.honest h)) stands.index;
-    }
+    record { log = keeps.stands; index = indexed_same old new store (λ h. subst IsTrue changes.honest h) (λ h. keeps.all (subst IsTrue changes.honest h)) stands.index }
 
 module _ (old new : Content) (s : EngineState) (at count : ℕ) (stands : Stands old s) (sizes : size new ≡ size old) (changes : ChangesWithin at count old new)
     (apart : IsTrue old.honest → IsApart s.manifest.shape s.manifest.current at count)
@@ -42,9 +38,6 @@ module _ (old new : Content) (s : EngineState) (at count : ℕ) (stands : Stands
     abbrev after : EngineState
     after = record s { manifest = m; converting = converting; merging = merging }
 
-    back : IsTrue new.honest → IsTrue old.honest
-    back h = subst IsTrue changes.honest h
-
     t_shape : (shown_stores old s).shape ≡ m.shape
     t_shape = named_shape _ _ _ ∙ sym same_shape
 
@@ -57,7 +50,7 @@ module _ (old new : Content) (s : EngineState) (at count : ℕ) (stands : Stands
       whole = whole_with s m converting merging same_shape same_current under_way is_merging stands.whole;
       idle = idle;
       current = is_current;
-      active = record { log = kept.stands; index = indexed_same old new s.active back (λ h. kept.all (back h)) stands.indexed };
+      active = record { log = kept.stands; index = indexed_same old new s.active (honest_old changes) (λ h. kept.all (honest_old changes h)) stands.indexed };
       frozen = all_frozen_elsewhere old new s at count stands changes apart;
       hashed = all_hashed_elsewhere old new s at count stands changes apart;
       located = located_elsewhere old new s at count stands changes apart;
@@ -69,10 +62,10 @@ module _ (old new : Content) (s : EngineState) (at count : ℕ) (stands : Stands
       named = named;
       sound = λ h.
           let active_of : s.active.log.region ≡ m.current.active = cc (stands.whole.active_region) in
-          subst (λ (rows : List StoredRow). IsSound (with_log_rows m.current.active rows (shown_stores old s))) (sym (kept.all (back h)))
-          (subst (λ (n : ℕ). IsSound (with_log_rows n (all_rows old s.active.log) (shown_stores old s))) active_of (stands.sound (back h)));
-      said = λ h. rw (← same_digests) at (stands.said (back h));
-      counted = λ h. cc (stands.counted (back h), waiting_kept old new s.active.log s.active.log stands.active (back h) kept);
+          subst (λ (rows : List StoredRow). IsSound (with_log_rows m.current.active rows (shown_stores old s))) (sym (kept.all (honest_old changes h)))
+          (subst (λ (n : ℕ). IsSound (with_log_rows n (all_rows old s.active.log) (shown_stores old s))) active_of (stands.sound (honest_old changes h)));
+      said = λ h. rw (← same_digests) at (stands.said (honest_old changes h));
+      counted = λ h. cc (stands.counted (honest_old changes h), waiting_kept old new s.active.log s.active.log stands.active (honest_old changes h) kept);
     }
 
     -- they still stand
@@ -123,8 +116,7 @@ module _ (old new : Content) (s : EngineState) (region : ℕ) (stands : Stands o
         let t : Stores = shown_stores old s in
         let from = in_region.left o image left in
         let names : names_log t region ≡ false = cc ((whole_law old.shown t (shown_named old s stands o)).names region, named_body s.manifest.shape s.manifest.current old.shown) in
-        region_torn _ t region _ from.0 image (named_shape _ _ _) (stands.named.each o from.0 from.1) below from.2 refl
-        ∙ ap Ok (unnamed_law t region (log_rows s.manifest.shape region image) names);
+        region_torn _ t region _ from.0 image (named_shape _ _ _) (stands.named.each o from.0 from.1) below from.2 refl ∙ ap Ok (unnamed_law t region (log_rows s.manifest.shape region image) names);
   }
 
   outside_active : LiesOutside (commits_at s.manifest.shape s.manifest.current.active) (log_len s.manifest.shape) (commits_at s.manifest.shape region) (log_size s.manifest.shape)
@@ -151,14 +143,10 @@ slot_apart shape body slot below = search (arith, outside_slot, slots_behind_man
 
 -- and apart from the slots of a conversion and the entries of a merge
 pub slot_before_conversion : (s : EngineState) (slot : ℕ) → slot < 2 → IsOutsideConversion s (slot_at slot) 4096
-slot_before_conversion s slot below =
-    on_some (IsPastSlots s.manifest.shape (slot_at slot) 4096) s.converting (λ conversion. slots_behind_manifest s.manifest.shape conversion.region slot below)
+slot_before_conversion s slot below = search (arith, on_some, slots_behind_manifest)
 
 pub slot_before_merge : (s : EngineState) (slot : ℕ) → slot < 2 → IsOutsideMerge s (slot_at slot) 4096
 slot_before_merge s slot below = on_some (IsPastEntries s.manifest.shape (slot_at slot) 4096) _ (λ merge. entries_behind_manifest _ _ slot below)
-
-pub below_two : (n : ℕ) → n % 2 < 2
-below_two n = mod-lt n (omega arith)
 
 -- ---- the region of the new log is cleared
 
@@ -166,13 +154,10 @@ module _ (old new : Content) (s : EngineState) (next : NextLog) where
   store_shape : IsNextLog s next → next.store.log.shape ≡ s.manifest.shape
   store_shape is = ap (λ (t : LogStoreState). t.log.shape) is.store
 
-  store_region : (is : IsNextLog s next) → next.store.log.region ≡ is.region
-  store_region is = ap (λ (t : LogStoreState). t.log.region) is.store
-
   module _ (stands : Stands old s) (is : IsNextLog s next) (sizes : size new ≡ size old)
       (changes : ChangesWithin (commits_at next.store.log.shape next.store.log.region) next.store.log.shape.log_capacity old new) where
     commits : ChangesWithin (commits_at s.manifest.shape is.region) s.manifest.shape.log_capacity old new
-    commits = rw (store_shape is, store_region is) at changes
+    commits = rw (store_shape is, ap (λ (t : LogStoreState). t.log.region) is.store) at changes
 
     pub clear_advances : Advances [] old new s s
     clear_advances = cleared old new s _ stands is.lowest.below is.lowest.free sizes commits

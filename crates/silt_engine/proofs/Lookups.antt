@@ -1,14 +1,13 @@
 -- What a walk through the stores finds.
-use Rattle.silt_engine.proofs.Common.{◌≡◌, ◌≢◌, ◌<◌, ◌*◌, ℕ, true, false, cond, IsTrue, List, [], ◌∷◌, ◌++◌, suc, zero, inl, inr, length, filter, map, take, get_or, Option, Some, None, refl}
-use Rattle.silt_engine.proofs.Common.{ap, sym, ◌∙◌, arith, append_assoc, All, bytes_eq, get, and_from, and_parts, cases_Bool, get_or-map, length-map, filter-append, list_any_at}
-use Rattle.silt_engine.proofs.Common.{get_or_from_slice_get, slice_get_within, bytes_eq-Decides, Content, Shape, kind_byte, Kind, Put, Delete, rows_before, slot_row, hash_part, hash_rows}
-use Rattle.silt_engine.proofs.Common.{HashState, all_before, log_rows, row_at, has_known_kind, StoredRow, all_rows, waiting_rows, all_are_settled_and_waiting, row_of_all, all_count}
-use Rattle.silt_engine.proofs.Common.{LogStoreState, FindsLast, HasNoRow, IsLastRow, Found, Body, oldest_first, sorted_rows, entries_of, hash_findings, holds_key, map_of_rows}
-use Rattle.silt_engine.proofs.Common.{sorted_findings, map_law, finds_nothing, HasNoEntry, HasOnlyValue, entries_law, Holder, Active, Frozen, Hashed, EngineState, Stands, current_map}
-use Rattle.silt_engine.proofs.Common.{shown_stores, hashed_rows, FindsFrozen, FindsHashed, FindsNewest, frozen_at, hash_store_at, hash_rows_of, row_in, reverse, option_and_then, option_or}
-use Rattle.silt_engine.proofs.Common.{or_parts, reverse-append, find-append, kind_of, is_row_of, before_at, before_count, before_taken, before_there, unsound_twice, newest_row, value_given}
-use Rattle.silt_engine.proofs.Common.{newest_law, IsOnlyRow, ShowsStores, value_found}
-use Rattle.std.proofs.Common.{slice_get}
+use Rattle.silt_engine.proofs.Common.{◌≡◌, ◌≢◌, ◌<◌, ◌*◌, ℕ, true, false, cond, IsTrue, List, [], ◌∷◌, ◌++◌, suc, zero, inl, inr, length, filter, map, take, get_or, Option, Some, None, refl, ap}
+use Rattle.silt_engine.proofs.Common.{sym, ◌∙◌, arith, append_assoc, All, bytes_eq, get, and_from, and_parts, cases_Bool, get_or-map, length-map, filter-append, list_any_at, get_or_from_slice_get}
+use Rattle.silt_engine.proofs.Common.{slice_get_within, bytes_eq-Decides, Content, Shape, kind_byte, Kind, Put, Delete, rows_before, slot_row, hash_part, hash_rows, HashState, all_before, log_rows}
+use Rattle.silt_engine.proofs.Common.{row_at, has_known_kind, StoredRow, all_rows, waiting_rows, all_are_settled_and_waiting, row_of_all, all_count, LogStoreState, FindsLast, HasNoRow, IsLastRow}
+use Rattle.silt_engine.proofs.Common.{Found, Body, oldest_first, sorted_rows, entries_of, hash_findings, holds_key, map_of_rows, sorted_findings, map_law, finds_nothing, HasNoEntry, HasOnlyValue}
+use Rattle.silt_engine.proofs.Common.{entries_law, Holder, Active, Frozen, Hashed, EngineState, Stands, current_map, shown_stores, hashed_rows, FindsFrozen, FindsHashed, FindsNewest, frozen_at}
+use Rattle.silt_engine.proofs.Common.{hash_store_at, hash_rows_of, row_in, reverse, option_and_then, option_or, or_parts, reverse-append, find-append, kind_of, is_row_of, before_at, before_count}
+use Rattle.silt_engine.proofs.Common.{before_taken, before_there, unsound_twice, newest_row, value_given, newest_law, IsOnlyRow, ShowsStores, value_found}
+use Rattle.std.proofs.Common.{slice_get, rules}
 use Rattle.std.specs.Option.{is_some}
 use Rattle.silt_hash_store.proofs.Growing.{all_sound}
 use Rattle.silt_image.specs.Stores.{stores_named}
@@ -16,6 +15,7 @@ use Rattle.silt_image.specs.Meaning.{rows_of}
 use Rattle.silt_standing.proofs.Shown.{stands_shown}
 use Rattle.silt_engine.proofs.Facts.{base_is, shown_sound}
 use Rattle.silt_engine.proofs.Elsewhere.{scanned_all}
+use mathlib.Core.List.{map-map}
 
 -- ---- the last row of a key
 
@@ -113,15 +113,13 @@ module _ (shape : Shape) (region : ℕ) (image : List ℕ) (key : List ℕ) wher
         let stands = hash_there later other at in
         let before : List StoredRow = rows_before shape region image later in
         let parts = and_parts (has_known_kind other) (bytes_eq other.key key) has in
-        let key_is : key ≡ later_row.key = sym ((bytes_eq-Decides other.key key).0 parts.1) ∙ ap (λ (r : StoredRow). r.key) stands.1 in
+        let key_is : key ≡ later_row.key = cc ((bytes_eq-Decides other.key key).0 parts.1, stands.1) in
         let known : has_known_kind later_row ≡ true = ap has_known_kind (sym stands.1) ∙ parts.0 in
-        let first : is_row_of key (get_or before slot row) ≡ true = ap (is_row_of key) (before_at shape region image later slot row past ∙ sym (hash_there slot row there).1) ∙ is in
-        let held : holds_key key before ≡ true = list_any_at (is_row_of key) before slot row (omega (arith, past, before_count shape region image later)) first in
-        let twice : holds_key later_row.key (take later (hash_rows shape region image)) ≡ true =
-        ap (holds_key later_row.key) (before_taken shape region image later (omega (arith, stands.0))) ∙ ap (λ (k : List ℕ). holds_key k before) (sym key_is) ∙ held in
-        let unsound = unsound_twice shape (hash_rows shape region image) later later_row known twice in
-        let sound = all_sound shape region image nothing later stands.0 in
-        absurd (let e : true ≡ false = sym sound ∙ unsound in cc)
+        let first : is_row_of key (get_or before slot row) ≡ true = search (arith, before_at, hash_there) in
+        let held : holds_key key before ≡ true = search (arith, list_any_at, before_count) in
+        let twice : holds_key later_row.key (take later (hash_rows shape region image)) ≡ true = search (arith, before_taken) in
+        let unsound = unsound_twice shape _ later later_row known twice in
+        search (arith, all_sound)
   ]
 
   -- so a row that is found is the newest row of the key
@@ -139,10 +137,9 @@ walk_none (newest ∷ older) key none = cc (newest_append (oldest_first older) n
 
 pub walk_some : (stores : List (List StoredRow)) (key : List ℕ) (number : ℕ) (row : StoredRow) → number < length stores
     → ((index : ℕ) → index < number → newest_row (get_or stores index []) key ≡ None) → newest_row (get_or stores number []) key ≡ Some row → newest_row (oldest_first stores) key ≡ Some row
-walk_some [] key number row inside none is = absurd (omega arith)
-walk_some (newest ∷ older) key zero row inside none is = cc (newest_append (oldest_first older) newest key)
 walk_some (newest ∷ older) key (suc number) row inside none is =
     cc (newest_append (oldest_first older) newest key, none 0 (omega arith), walk_some older key number row (omega (arith, inside)) (λ index below. none (suc index) (omega (arith, below))) is)
+walk_some stores key number row inside none is = search (rules, arith, newest_append)
 
 -- ---- all rows, store by store
 
@@ -166,30 +163,21 @@ map_agree f g (x ∷ xs) same =
     let others : map f xs ≡ map g xs = map_agree f g xs (λ k d inside. same (suc k) d (omega (arith, inside))) in
     cc
 
-map_twice : {X Y Z : Type 0} (f : Y → Z) (g : X → Y) (xs : List X) → map f (map g xs) ≡ map (λ x. f (g x)) xs
-map_twice f g [] = refl
-map_twice f g (x ∷ xs) = ap (λ zs. f (g x) ∷ zs) (map_twice f g xs)
-
--- the entries of stores that are named
-named_entries : (shape : Shape) (body : Body) (image : List ℕ) → (stores_named shape body image).entries ≡ sorted_rows shape body.sorted body.sorted_count image
-unfolding stores_named
-named_entries shape body image = refl
-
 -- and all their rows
 pub named_rows : (shape : Shape) (body : Body) (image : List ℕ) → rows_of (stores_named shape body image)
     ≡ sorted_rows shape body.sorted body.sorted_count image ++ oldest_first (map (λ region. filter has_known_kind (hash_rows shape region image)) body.hashed)
     ++ (oldest_first (map (λ region. log_rows shape region image) body.frozen) ++ log_rows shape body.active image)
 unfolding rows_of stores_named
-named_rows shape body image = search (arith, map_twice)
+named_rows shape body image = search (arith, map-map)
 
 module _ (content : Content) (s : EngineState) (shows : ShowsStores content s) (honest : IsTrue content.honest) where
   -- the rows of the frozen logs
   frozen_rows : map (λ region. log_rows s.manifest.shape region content.shown) s.manifest.current.frozen ≡ map (rows_in content) s.frozen
-  frozen_rows = search (arith, map_twice, map_agree, scanned_all)
+  frozen_rows = search (arith, map-map, map_agree, scanned_all)
 
   -- and those of the hash stores
   hash_store_rows : map (λ region. filter has_known_kind (hash_rows s.manifest.shape region content.shown)) s.manifest.current.hashed ≡ map (known_in content) s.hashes
-  hash_store_rows = search (arith, map_twice, map_agree)
+  hash_store_rows = search (arith, map-map, map_agree)
 
   -- the entries
   entries_shown : sorted_rows s.manifest.shape s.manifest.current.sorted s.manifest.current.sorted_count content.shown ≡ entries_of content s.sorted
@@ -210,8 +198,9 @@ module _ (content : Content) (s : EngineState) (shows : ShowsStores content s) (
 module _ (content : Content) (s : EngineState) (stands : Stands content s) (honest : IsTrue content.honest) where
   -- nothing is found in the entries
   pub entries_sound : sorted_findings (entries_of content s.sorted) ≡ []
+  unfolding stores_named
   entries_sound =
-      rw (named_entries s.manifest.shape s.manifest.current content.shown ∙ entries_shown content s (stands_shown content s stands) honest) at (finds_nothing
+      rw (entries_shown content s (stands_shown content s stands) honest) at (finds_nothing
       (shown_stores content s) (shown_sound content s stands honest)).entries
 
   -- what the map has for a key
@@ -257,12 +246,13 @@ module _ (content : Content) (s : EngineState) (stands : Stands content s) (hone
   pub found_frozen : (key : List ℕ) (number : ℕ) (found : Found) → number < length s.frozen → HasNoRow (all_rows content s.active.log) key → FindsFrozen content s key (Some (number, found))
       → get (current_map content s) key ≡ value_found content s (Frozen number) found
   found_frozen key number found inside none (before, (row, is, kind)) =
-      past_active key none
-      ∙ ap (λ (o : Option StoredRow). option_and_then value_given (option_or o (newest_row (rows_behind content s) key)))
-      (walk_some (map (rows_in content) s.frozen) key number row (omega (arith, inside, length-map s.frozen (rows_in content)))
-      (λ index below. frozen_lacks key index (omega (arith, below, inside)) (before index below))
-      (cc (rows_at number inside, newest_last (all_rows content (frozen_at s number).log) key found.place row is)))
-      ∙ its_value (Frozen number) found row kind (row_value (frozen_at s number) key found.place row is)
+      cc (
+        past_active key none,
+        walk_some (map (rows_in content) s.frozen) key number row (omega (arith, inside, length-map s.frozen (rows_in content))) (λ index below. frozen_lacks key
+            index (omega (arith, below, inside)) (before index below))
+            (cc (rows_at number inside, newest_last (all_rows content (frozen_at s number).log) key found.place row is)),
+        its_value (Frozen number) found row kind (row_value (frozen_at s number) key found.place row is),
+      )
 
   -- no log has one
   past_frozen : (key : List ℕ) → HasNoRow (all_rows content s.active.log) key → FindsFrozen content s key None

@@ -1,10 +1,10 @@
 -- What a merge takes of the stores, and when it is done.
-use Rattle.silt_engine.proofs.Common.{◌≡◌, ◌≤◌, ℕ, ◌+◌, ◌-◌, ◌++◌, IsTrue, List, [], true, length, map, take, drop, get_or, refl, ap, sym, ◌∙◌, subst, Option, Some, None, arith, IfSome}
-use Rattle.silt_engine.proofs.Common.{and_parts, eqb-true, length-drop, take-append-drop, take_all, All-drop, Content, Shape, StoredRow, put_count, HashState, IsHashStore, IsHeldHash}
-use Rattle.silt_engine.proofs.Common.{IsSound, charge_of, rows_of, with_log_rows, known_rows, oldest_first, part_rows, Part, map_of_rows, sorted_findings, Stores, sorted_rows, SortedState}
-use Rattle.silt_engine.proofs.Common.{count_law, all_rows, waiting_rows, Body, IsMergeOf, entries_in, merged_rows, MergeState, is_done, oldest_stores, charge_without, merge_sources, puts_in}
-use Rattle.silt_engine.proofs.Common.{IsMerging, EngineState, HasGathered, Stands, base_map, shown_stores, leb-true, slice_get-get_or, charge_law, parts_law, ReplacesStores, with_merged}
-use Rattle.silt_engine.proofs.Common.{AreSound, sources, entry_count, AreCompared, IsDoneBySteps}
+use Rattle.silt_engine.proofs.Common.{◌≡◌, ◌≤◌, ℕ, ◌+◌, ◌-◌, ◌++◌, IsTrue, List, [], true, length, map, take, drop, get_or, refl, ap, sym, ◌∙◌, subst, Option, Some, None, arith, IfSome, and_parts}
+use Rattle.silt_engine.proofs.Common.{eqb-true, length-drop, take-append-drop, take_all, All-drop, Content, Shape, StoredRow, put_count, HashState, IsHashStore, IsHeldHash, IsSound, charge_of}
+use Rattle.silt_engine.proofs.Common.{rows_of, with_log_rows, known_rows, oldest_first, part_rows, Part, map_of_rows, sorted_findings, Stores, sorted_rows, SortedState, count_law, all_rows}
+use Rattle.silt_engine.proofs.Common.{waiting_rows, Body, IsMergeOf, entries_in, merged_rows, MergeState, is_done, oldest_stores, charge_without, merge_sources, puts_in, IsMerging, EngineState}
+use Rattle.silt_engine.proofs.Common.{HasGathered, Stands, base_map, shown_stores, leb-true, slice_get-get_or, charge_law, parts_law, ReplacesStores, with_merged, AreSound, sources, entry_count}
+use Rattle.silt_engine.proofs.Common.{AreCompared, IsDoneBySteps}
 use Rattle.silt_engine.specs.Merge as spec
 use Rattle.silt_image.specs.Stores.{stores_named}
 use Rattle.silt_merge.proofs.Ending.{done_entries, done_steps}

@@ -1,8 +1,8 @@
 -- An entry of a merge, written into the sorted region that the body does not name.
-use Rattle.silt_engine.proofs.Common.{◌≡◌, ◌≢◌, ◌<◌, ℕ, ◌*◌, IsTrue, [], Option, Some, None, Ok, inl, inr, refl, ap, sym, ◌∙◌, subst, arith, IfSome, ChangesWithin, Content, LeavesOnly}
-use Rattle.silt_engine.proofs.Common.{LiesOutside, size, Shape, entries_len, entry_len, commits_at, hash_at, hash_size, log_len, log_size, row_len, slots_len, sorted_at, sorted_size}
-use Rattle.silt_engine.proofs.Common.{regions_apart, up_least, current_record_elsewhere, Body, ConversionState, Stores, image_stores, pieces_apart, MergeState, SortedState, IsMerging}
-use Rattle.silt_engine.proofs.Common.{IsUnderWay, EngineState, HasGathered, Stands, shown_stores, Advances, Breaks, Remaps, SameDisk, free_sorted_law, log_ends_before}
+use Rattle.silt_engine.proofs.Common.{◌≡◌, ◌≢◌, ◌<◌, ℕ, ◌*◌, IsTrue, [], Option, Some, None, Ok, inl, inr, refl, ap, sym, ◌∙◌, subst, arith, IfSome, ChangesWithin, Content, LeavesOnly, LiesOutside}
+use Rattle.silt_engine.proofs.Common.{size, Shape, entries_len, entry_len, commits_at, hash_at, hash_size, log_len, log_size, row_len, slots_len, sorted_at, sorted_size, regions_apart, up_least}
+use Rattle.silt_engine.proofs.Common.{current_record_elsewhere, Body, ConversionState, Stores, image_stores, pieces_apart, MergeState, SortedState, IsMerging, IsUnderWay, EngineState, HasGathered}
+use Rattle.silt_engine.proofs.Common.{Stands, shown_stores, Advances, Breaks, Remaps, SameDisk, free_sorted_law, log_ends_before}
 use Rattle.silt_engine.proofs.Named.{named_body, named_shape}
 use Rattle.silt_engine.proofs.Facts.{active_below}
 use Rattle.silt_engine.proofs.Elsewhere.{hash_below, named_below, written_all_elsewhere, IsApart, IsOutsideConversion, IsPastSlots}

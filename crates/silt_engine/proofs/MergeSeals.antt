@@ -1,8 +1,7 @@
 -- The index of a merge is made before its last writes: nothing else of the stores changes.
-use Rattle.silt_engine.proofs.Common.{arith, ◌≡◌, ◌<◌, ◌-◌, ◌^◌, ℕ, true, None, List, [], Option, Some, Ok, refl, ap, sym, ◌∙◌, subst, Content, Ghosts, within_refl, HashState, Finished}
-use Rattle.silt_engine.proofs.Common.{Body, Digests, HasMerged, Seals, MergeState, is_done, oldest_stores, sorted_in, IndexedState, IsIndexOf, HasDigest, SortedState, entries_of, MarkedCode}
-use Rattle.silt_engine.proofs.Common.{EngineState, IsMerging, Stands, Advances, Works, AreCompared, EndsMerge, EndsMerged, HasMergedEntries, Merges, SealsMerge, merge_turn, merged_body}
-use Rattle.silt_engine.proofs.Common.{merged_digests, none_made}
+use Rattle.silt_engine.proofs.Common.{arith, ◌≡◌, ◌<◌, ◌-◌, ◌^◌, ℕ, true, None, List, [], Option, Some, Ok, refl, ap, sym, ◌∙◌, subst, Content, Ghosts, within_refl, HashState, Finished, Body}
+use Rattle.silt_engine.proofs.Common.{Digests, HasMerged, Seals, MergeState, is_done, oldest_stores, sorted_in, IndexedState, IsIndexOf, HasDigest, SortedState, entries_of, MarkedCode, EngineState}
+use Rattle.silt_engine.proofs.Common.{IsMerging, Stands, Advances, Works, AreCompared, EndsMerge, EndsMerged, Merges, SealsMerge, merge_turn, merged_body, merged_digests, none_made}
 use Rattle.silt_engine.proofs.MergeEntries.{entry_advances}
 use Rattle.silt_engine.proofs.MergeDone.{taken_sound}
 use Rattle.silt_engine.proofs.MergeSteps.{gathered_of, merging_of}
@@ -24,8 +23,7 @@ seal_advances : (content : Content) (s : EngineState) (merge : MergeState) (trie
 seal_advances content s merge trie was stands =
     let way = merging_of s merge stands.whole was in
     let gathered = gathered_of content s merge stands was in
-    entry_advances _ _ s _ stands way.held.there way.apart refl (within_refl _ _ _) _ (way_with_trie merge trie s way)
-    (merged_with_trie merge trie _ _ _ gathered.0, compared_with_trie merge trie _ _ _ gathered.1, gathered.2)
+    search (arith, entry_advances, within_refl, way_with_trie, merged_with_trie, compared_with_trie)
 
 module _ (s t : EngineState) (seals : SealsMerge s t) where
   pub sealed_is : t ≡ sealed_stores s seals.merge (Some seals.seals.made)
@@ -59,9 +57,6 @@ module _ (s t : EngineState) (seals : SealsMerge s t) where
 
   pub merges_before : (after : EngineState) → merge_turn s ≡ Finished → EndsMerged t after → Merges Finished s after
   merges_before after turn ends = record { due = sym turn; done = ends_before after (rw sealed_is at ends) }
-
-  pub entries_before : (old new : Content) (after : EngineState) → HasMergedEntries old new t after → HasMergedEntries old new s after
-  entries_before old new after entries = search (arith, sealed_is)
 
 -- a merge that is done may end with a sorted store of its entries and their index, which is made
 pub may_end : (before s : EngineState) (body : Body) (digests : Digests) (digest : List ℕ) (seals : SealsMerge before s) → is_done seals.sealed s.sorted ≡ true → seals.sealed.damaged ≡ None

@@ -1,10 +1,10 @@
 -- The steps of a merge.
-use Rattle.silt_engine.proofs.Common.{cases_Bool, ◌≡◌, ◌<◌, ℕ, ◌+◌, ◌-◌, ◌==◌, Bool, true, false, if◌then◌else◌, IsTrue, List, [], length, drop, Option, Some, None, Result, ◌⊎◌, inl, inr}
-use Rattle.silt_engine.proofs.Common.{refl, ap, sym, ◌∙◌, subst, arith, All, IfSome, eq-eqb, eqb-false, lt-ltb, ne_eqb, All-drop, ChangesWithin, Content, MakesAtMost, Ghosts, sorted_at}
-use Rattle.silt_engine.proofs.Common.{sorted_size, HashState, HasCompared, HasMerged, MergeState, is_done, oldest_stores, steps_of, TakesMemory, SortedState, Progress, Finished, Idle, Moved}
-use Rattle.silt_engine.proofs.Common.{AreWhole, IsHashOf, IsMerging, EngineState, HasGathered, SameDisk, Stands, Advances, Breaks, Remaps, is_work, step_syncs, step_writes, written_by_merge}
-use Rattle.silt_engine.proofs.Common.{Damaged, damaged_in, merge_turn, option_map, MatchesDigests, IsSameMerge, IsHeldMerge, FailsMerge, GoesOn, TakesStep, damaged_place, StepMakes}
-use Rattle.silt_engine.proofs.Common.{MayLackMemory, MergeErrorCause, Merges, merge_progress, place_read}
+use Rattle.silt_engine.proofs.Common.{cases_Bool, ◌≡◌, ◌<◌, ℕ, ◌+◌, ◌-◌, ◌==◌, Bool, true, false, if◌then◌else◌, IsTrue, List, [], length, drop, Option, Some, None, Result, ◌⊎◌, inl, inr, refl, ap}
+use Rattle.silt_engine.proofs.Common.{sym, ◌∙◌, subst, arith, All, IfSome, eq-eqb, eqb-false, lt-ltb, ne_eqb, All-drop, ChangesWithin, Content, MakesAtMost, Ghosts, sorted_at, sorted_size}
+use Rattle.silt_engine.proofs.Common.{HashState, HasCompared, HasMerged, MergeState, is_done, oldest_stores, steps_of, TakesMemory, SortedState, Progress, Finished, Idle, Moved, AreWhole, IsHashOf}
+use Rattle.silt_engine.proofs.Common.{IsMerging, EngineState, HasGathered, SameDisk, Stands, Advances, Remaps, is_work, step_syncs, step_writes, written_by_merge, Damaged, damaged_in, merge_turn}
+use Rattle.silt_engine.proofs.Common.{option_map, MatchesDigests, IsSameMerge, IsHeldMerge, FailsMerge, GoesOn, TakesStep, damaged_place, StepMakes, MayLackMemory, MergeErrorCause, Merges}
+use Rattle.silt_engine.proofs.Common.{merge_progress, place_read}
 use Rattle.silt_merge.specs.declared.merge.StepError.TheVariants as step_error
 use Rattle.silt_event.specs.declared.place.Place.{Place}
 use Rattle.silt_merge.specs.declared.merge.StepError.{StepError}
@@ -76,18 +76,9 @@ module _ {D F T : Type 0} (facts : Ghosts D F) (old new : D) (s : EngineState) (
 
   -- the merge is in progress
   pub way_after : IsMerging s after
-  way_after = record {
-    has_shape = step.same.shape ∙ way.has_shape;
-    apart = λ e. way.apart (e ∙ step.same.region);
-    some = subst (λ (n : ℕ). 0 < n) (sym step.same.stores) way.some;
-    most = rw (← step.same.stores) at way.most;
-    held = step.held;
-  }
+  way_after = search (arith, step.same.shape, way.has_shape, way.apart, step.same.region, step.same.stores, way.some, way.most, step.held)
 
   -- whether it was done or not
-  failed_breaks : Breaks (facts.content old) (facts.content new) s
-  failed_breaks = entry_breaks _ _ s _ stands way.held.there way.apart step.size entry_changes
-
   pub failed_map : (merging : Option MergeState) → Remaps [] (facts.content old) (facts.content new) s (record s { merging = merging })
   failed_map merging = entry_failed_map _ _ s _ stands way.held.there way.apart step.size entry_changes
 
@@ -127,7 +118,7 @@ module _ {D F T : Type 0} (facts : Ghosts D F) (old new : D) (s : EngineState) (
     step_cause step_error.NoMemory fails = (same fails.0, fails.1, inl (turn, lacks (fails.2 gathered.0 (λ h. taken_sound _ s stands h _))))
     step_cause (step_error.Read fault) fails = (same fails.0, fails.1, turn, fails.2)
     step_cause (step_error.Damaged place) fails = (same fails.0, fails.1, found place fails.2, ap is_work turn, λ h. let no : None ≡ Some place = sym (gathered.2 h) ∙ fails.2 in cc)
-    step_cause (step_error.Write fault) fails = (ap is_work turn, record { counted = fails; breaks = failed_breaks; map = remaps })
+    step_cause (step_error.Write fault) fails = (ap is_work turn, record { counted = fails; breaks = entry_breaks _ _ s _ stands way.held.there way.apart step.size entry_changes; map = remaps })
 
   -- it makes no more than one write
   pub most_made : merge_turn s ≡ Moved → MakesAtMost facts.writes facts.syncs 1 0 old new → MakesAtMost facts.writes facts.syncs (step_writes (merge_turn s)) (step_syncs (merge_turn s)) old new
@@ -178,13 +169,7 @@ module _ (s : EngineState) (started : MergeState) (begins : BeginsMerge s starte
   started_stores = ap (λ (v : MergeState). v.stores) begins.is ∙ ap length begins.read_is
 
   pub started_way : IsMerging s started
-  started_way = record {
-    has_shape = cc (begins.is, begins.sorted_is, begins.whole.sorted);
-    apart = λ e. absurd (omega (arith, e, begins.whole.held.region, ap (λ (v : MergeState). v.region) begins.is, begins.other));
-    some = omega (arith, begins.some, started_stores);
-    most = omega (arith, started_stores);
-    held = begins.held;
-  }
+  started_way = search (arith, started_stores)
 
   begins_store : started.store ≡ 0
   begins_store = ap (λ (v : MergeState). v.store) begins.is
@@ -198,11 +183,7 @@ module _ (s : EngineState) (started : MergeState) (begins : BeginsMerge s starte
   all_taken = ap (λ (n : ℕ). drop n s.hashes) (let nothing : length s.hashes - started.stores ≡ 0 = omega (arith, started_stores) in nothing)
 
   pub begun : (content : Content) → HasMerged content begins.read begins.sorted started → HasCompared begins.read begins.sorted s.digest started → HasGathered content s started
-  begun content has compared = (
-    rw (begins.sorted_is, (begins.read_is ∙ sym all_taken)) at has,
-    rw (begins.sorted_is, (begins.read_is ∙ sym all_taken)) at compared,
-    λ h. started_sound,
-  )
+  begun content has compared = search (arith, all_taken, started_sound)
 
   -- it reads the newest of them, and it has written nothing
   pub started_reads : damaged_place (oldest_stores started.stores s.hashes) started ≡ place_read s.hashes s.merging

@@ -1,9 +1,8 @@
 -- The rows that a merge takes of the stores that a body names, and the stores with its entries.
 use Rattle.silt_engine.proofs.Common.{◌≡◌, ℕ, zero, suc, ◌+◌, ◌-◌, IsTrue, [], ◌∷◌, ◌++◌, List, length, map, take, drop, refl, ap, sym, ◌∙◌, arith, All, length-map, take-map, Content, Shape}
-use Rattle.silt_engine.proofs.Common.{StoredRow, entry_row, put_count, HashState, IsHashStore, IsSound, known_rows, oldest_first, Part, Stores, hash_part, SortedState, count_law, Body}
-use Rattle.silt_engine.proofs.Common.{taken_rows, IsMergeOf, regions_of, oldest_stores, merge_sources, merged_body, puts_in, hash_region_of, sorted_named, append_assoc, flat_map-append}
-use Rattle.silt_engine.proofs.Common.{map-append, charge_of, map_of_rows, part_rows, map_law, finds_nothing, is_sound, nothing_first, sum_by-cons, drop-map, MergesLaw, rows_of_hashes}
-use Rattle.silt_engine.proofs.Common.{entry_bytes, entry_more}
+use Rattle.silt_engine.proofs.Common.{StoredRow, entry_row, put_count, HashState, IsHashStore, IsSound, known_rows, oldest_first, Part, Stores, hash_part, SortedState, count_law, Body, taken_rows}
+use Rattle.silt_engine.proofs.Common.{IsMergeOf, regions_of, oldest_stores, merge_sources, merged_body, puts_in, hash_region_of, sorted_named, append_assoc, flat_map-append, map-append, charge_of}
+use Rattle.silt_engine.proofs.Common.{map_of_rows, part_rows, map_law, finds_nothing, is_sound, nothing_first, sum_by-cons, drop-map, MergesLaw, rows_of_hashes, entry_bytes, entry_more}
 use Rattle.silt_image.specs.Meaning.{with_log_rows, rows_of}
 use Rattle.silt_image.specs.Stores.{stores_named}
 use Rattle.silt_sorted_store.specs.State.{sorted_rows}
@@ -91,24 +90,6 @@ pub merged_named : (shape : Shape) (body : Body) (count region written : ℕ) (i
 unfolding stores_named with_merged
 merged_named shape body count region written image = search (arith, take-map, length-map)
 
--- shape, body and entries of the stores with it
-pub merged_shape : (body : Body) (newer : List Part) (entries : List StoredRow) (t : Stores) → (with_merged body newer entries t).shape ≡ t.shape
-unfolding with_merged
-merged_shape body newer entries t = refl
-
-pub merged_current : (body : Body) (newer : List Part) (entries : List StoredRow) (t : Stores) → (with_merged body newer entries t).body ≡ body
-unfolding with_merged
-merged_current body newer entries t = refl
-
-pub merged_entries : (body : Body) (newer : List Part) (entries : List StoredRow) (t : Stores) → (with_merged body newer entries t).entries ≡ entries
-unfolding with_merged
-merged_entries body newer entries t = refl
-
--- other rows of a log leave the entries
-pub with_entries : (region : ℕ) (rows : List StoredRow) (t : Stores) → (with_log_rows region rows t).entries ≡ t.entries
-unfolding with_log_rows
-with_entries region more t = refl
-
 -- if the merge may replace what it took, it may do so with other rows of a log
 pub sound_with : (body : Body) (newer taken : List Part) (entries rows : List StoredRow) (region : ℕ) (t : Stores) → t.hashes ≡ newer ++ taken → IsMergeOf (taken_rows taken t) entries
     → IsSound (with_log_rows region rows t) → IsSound (with_log_rows region rows (with_merged body newer entries t))
@@ -135,11 +116,9 @@ hashes_puts : (content : Content) (shape : Shape) (stores : List HashState) → 
     → put_count (rows_of_hashes shape content.shown (regions_of stores)) ≡ puts_in stores
 hashes_puts content shape [] honest shapes stand = refl
 hashes_puts content shape (store ∷ stores) honest shapes stand =
-    let rest = hashes_puts content shape stores honest (λ k blank below. shapes (suc k) blank (omega arith)) (λ k blank below. stand (suc k) blank (omega arith)) in
-    let its : store.puts ≡ put_count (known_rows (hash_part shape content.shown store.region)) =
-    (stand 0 store (omega arith)).counted honest ∙ ap (λ (sh : Shape). put_count (known_rows (hash_part sh content.shown store.region))) (shapes 0 store (omega arith)) in
-    let both = count_law (rows_of_hashes shape content.shown (regions_of stores)) (known_rows (hash_part shape content.shown store.region)) in
-    omega (arith, rest, its, both, sum_by-cons (λ (other : HashState). other.puts) store stores)
+    let rest = hashes_puts _ shape stores honest (λ k blank below. shapes (suc k) blank (omega arith)) (λ k blank below. stand (suc k) blank (omega arith)) in
+    let its : store.puts ≡ put_count (known_rows (hash_part shape content.shown store.region)) = cc ((stand 0 store (omega arith)).counted honest, shapes 0 store (omega arith)) in
+    search (arith, count_law, sum_by-cons)
 
 -- and so are those of all that a merge takes
 pub sources_puts : (content : Content) (stores : List HashState) (sorted : SortedState) → IsTrue content.honest → All (λ store. store.shape ≡ sorted.shape) stores → All (IsHashStore content) stores

@@ -1,20 +1,22 @@
 -- The end of a merge: the record that names its sorted store, and the stores once it is current.
-use Rattle.silt_engine.proofs.Common.{inr, ◌≡◌, ℕ, ◌-◌, IsTrue, List, [], ◌++◌, length, map, take, Option, Some, refl, ap, sym, ◌∙◌, subst, arith, IfSome, take-map, All-take, Content}
-use Rattle.silt_engine.proofs.Common.{LeavesOnly, Rests, size, Shape, device_size, slot_at, left_at_rest, StoredRow, put_count, all_rows, KeepsRows, ManifestState, spare_slot, Body, Digests}
-use Rattle.silt_engine.proofs.Common.{Stores, stores_named, AreDigestsOf, IsSound, entries_digest, rows_of, with_log_rows, command_of, ConversionState, IsHashStore, merged_rows}
-use Rattle.silt_engine.proofs.Common.{IndexedState, SortedState, entries_of, sorted_rows, digest_elsewhere, indexed_elsewhere, AreWhole, IsHashOf, IsMerging, IsUnderWay, EngineState}
-use Rattle.silt_engine.proofs.Common.{hash_region_of, IsDigested, IsLocated, Stands, shown_stores, Advances, MayBecomeCurrent, BecomesCurrent, EndsMerge, MayStandFor, charge_without}
-use Rattle.silt_engine.proofs.Common.{merge_sources, merged_body, sorted_replaced, IsHeldSorted, EndsMerged, HasMergedEntries}
+use Rattle.silt_engine.proofs.Common.{inr, ◌≡◌, ℕ, ◌-◌, IsTrue, List, [], ◌++◌, length, map, take, Option, Some, refl, ap, sym, ◌∙◌, subst, arith, IfSome, take-map, All-take, Content, LeavesOnly}
+use Rattle.silt_engine.proofs.Common.{Rests, size, Shape, device_size, slot_at, left_at_rest, StoredRow, put_count, all_rows, KeepsRows, ManifestState, spare_slot, Body, Digests, Stores}
+use Rattle.silt_engine.proofs.Common.{stores_named, AreDigestsOf, IsSound, entries_digest, rows_of, with_log_rows, command_of, ConversionState, IsHashStore, merged_rows, IndexedState, SortedState}
+use Rattle.silt_engine.proofs.Common.{entries_of, sorted_rows, digest_elsewhere, indexed_elsewhere, AreWhole, IsHashOf, IsMerging, IsUnderWay, EngineState, hash_region_of, IsDigested, IsLocated}
+use Rattle.silt_engine.proofs.Common.{Stands, shown_stores, Advances, MayBecomeCurrent, BecomesCurrent, EndsMerge, MayStandFor, merge_sources, merged_body, sorted_replaced, IsHeldSorted, EndsMerged}
+use Rattle.silt_engine.proofs.Common.{HasMergedEntries}
 use Rattle.silt_engine.specs.Merge as spec
 use Rattle.silt_engine.proofs.Named.{named_shape}
-use Rattle.silt_engine.proofs.Elsewhere.{entries_behind_manifest, indexed_same}
+use Rattle.silt_engine.proofs.Elsewhere.{entries_behind_manifest, indexed_same, honest_old}
 use Rattle.silt_engine.proofs.Standing.{Fits, shown_are}
 use Rattle.silt_engine.proofs.Counting.{hash_count, none_of_first, may_end_merge}
 use Rattle.silt_engine.proofs.Turns.{active_stays, frozen_stays, hashed_stays, slot_below, waiting_stays, written_stays}
 use Rattle.silt_engine.proofs.NextBodies.{now_named, succeeds}
-use Rattle.silt_engine.proofs.MergeStores.{merged_entries, merged_named, merged_current, merged_shape, sources_with, with_entries}
+use Rattle.silt_engine.proofs.MergeStores.{merged_named, sources_with}
 use Rattle.silt_engine.proofs.Said.{merged_said}
 use Rattle.silt_engine.proofs.MergeDone.{all_compared, entries_are, full_is, merged_counted, merged_full_sound, merged_map, merged_sound, merged_stores, way}
+use Rattle.silt_engine.specs.Replacements.{with_merged}
+use Rattle.silt_image.specs.Meaning.{with_log_rows}
 
 -- a conversion is in progress in stores with fewer hash stores
 under_way_fewer : (s t : EngineState) (count : ℕ) (o : Option ConversionState) → t.manifest.shape ≡ s.manifest.shape
@@ -33,9 +35,7 @@ module _ (old : Content) (s : EngineState) (body : Body) (digests : Digests) (st
 
   -- it names them in each possible crash image, since nothing is pending
   names : LeavesOnly old (λ image. stores_named s.manifest.shape body image ≡ now_stores)
-  names = record {
-    each = λ h image left. cc (left_at_rest rests h image left, ends.is, merged_named s.manifest.shape s.manifest.current ends.merge.stores ends.merge.region ends.merge.written old.shown);
-  }
+  names = record { each = search (arith, left_at_rest, merged_named) }
 
   -- the digests are theirs
   said : IsTrue old.honest → AreDigestsOf (Some digests) now_stores
@@ -45,11 +45,12 @@ module _ (old : Content) (s : EngineState) (body : Body) (digests : Digests) (st
       ∙ ap (λ (sh : Shape). entries_digest (sorted_rows sh ends.merge.region ends.merge.written old.shown)) under_way.has_shape))
 
   pub merged_may_become_current : MayBecomeCurrent old s body digests
+  unfolding with_merged
   merged_may_become_current = record {
     follows = λ sound. may_end_merge s body _ store sound stands.whole ends;
     stores = now_stores;
-    has_shape = merged_shape _ _ _ _ ∙ named_shape _ _ _;
-    has_body = merged_current _ _ _ _;
+    has_shape = named_shape _ _ _;
+    has_body = refl;
     names = names;
     sound = merged_sound old s _ stands ends.was ends.done body;
     said = said;
@@ -60,9 +61,6 @@ module _ (old : Content) (s : EngineState) (body : Body) (digests : Digests) (st
   -- ---- once it is_current
 
   module _ (new : Content) (sizes : size new ≡ size old) (m : ManifestState) (now : BecomesCurrent old new s body digests m) where
-    back : IsTrue new.honest → IsTrue old.honest
-    back h = subst IsTrue now.changes.honest h
-
     -- the stores in memory afterwards
     abbrev after : EngineState
     after = sorted_replaced s m ends.merge.stores store
@@ -113,7 +111,7 @@ module _ (old : Content) (s : EngineState) (body : Body) (digests : Digests) (st
       whole = merged_whole;
       idle = now.idle;
       current = now.current;
-      active = record { log = keeps.stands; index = indexed_same old new s.active back (λ h. keeps.all (back h)) stands.indexed };
+      active = record { log = keeps.stands; index = indexed_same old new _ (honest_old now.changes) (λ h. keeps.all (honest_old now.changes h)) stands.indexed };
       frozen = frozen_stays old new s stands sizes now.changes;
       hashed = All-take (IsHashStore new) (length s.hashes - ends.merge.stores) s.hashes (hashed_stays old new s stands sizes now.changes);
       located = located;
@@ -122,13 +120,13 @@ module _ (old : Content) (s : EngineState) (body : Body) (digests : Digests) (st
       merged = tt;
       same_shape = merged_may_become_current.has_shape ∙ sym now.has_shape;
       same_body = merged_may_become_current.has_body ∙ sym now.has_body;
-      named = now_named old new s body digests stands merged_may_become_current sizes m now;
+      named = now_named old new s body _ stands merged_may_become_current sizes m now;
       sound = λ h. subst (λ (n : ℕ). IsSound (with_log_rows n (all_rows new s.active.log) now_stores)) (ap (λ (b : Body). b.active) (sym current_is)) (subst (λ (rows : List StoredRow).
-          IsSound (with_log_rows s.manifest.current.active rows now_stores)) (sym (keeps.all (back h))) (merged_full_sound old s ends.merge stands ends.was ends.done body (back h)));
-      said = λ h. rw (← now.has_digests) at (merged_may_become_current.said (back h));
-      counted = λ h. merged_counted old s ends.merge stands ends.was ends.done body (back h) (s.charge - ((s.charge - charge_without s ends.merge.stores) - store.sorted.count))
-          (ap (λ (t : SortedState). s.charge - ((s.charge - charge_without s ends.merge.stores) - t.count)) ends.entries)
-          ∙ ap (λ (rows : List StoredRow). put_count (rows_of now_stores ++ rows)) (sym (waiting_stays old new s stands sizes now.changes (back h)));
+          IsSound (with_log_rows s.manifest.current.active rows now_stores)) (sym (keeps.all (honest_old now.changes h)))
+          (merged_full_sound old s _ stands ends.was ends.done body (honest_old now.changes h)));
+      said = λ h. rw (← now.has_digests) at (merged_may_become_current.said (honest_old now.changes h));
+      counted = λ h. merged_counted old s _ stands ends.was ends.done body (honest_old now.changes h) _ (search arith)
+          ∙ ap (λ (rows : List StoredRow). put_count (rows_of now_stores ++ rows)) (sym (waiting_stays old new s stands sizes now.changes (honest_old now.changes h)));
     }
 
     -- and still stand
@@ -145,13 +143,11 @@ module _ (old : Content) (s : EngineState) (body : Body) (digests : Digests) (st
 
     -- its entries are the newest rows that are puts, of what it took on a disk that shows the same stores
     entries_now : IsTrue old.honest → (spec.full_stores new after).entries ≡ merged_rows (merge_sources ends.merge.stores (shown_stores old s))
-    unfolding merged_may_become_current
+    unfolding merged_may_become_current with_log_rows with_merged
     entries_now h =
         let here : IsTrue new.honest = subst IsTrue (sym now.changes.honest) h in
         ap (λ (t : Stores). t.entries) (full_is new after goes.stands here)
-        ∙ with_entries _ _ _
         ∙ ap (λ (t : Stores). t.entries) (shown_are new after _ fits.same_shape fits.same_body fits.named here)
-        ∙ merged_entries _ _ _ _
         ∙ entries_are old s ends.merge stands ends.was ends.done h
 
     pub has_merged_entries : (first : Content) (finished : EngineState) → finished ≡ sorted_replaced s m ends.merge.stores store

@@ -1,8 +1,8 @@
 -- Stores that a body names, and the images that have them.
-use Rattle.silt_engine.proofs.Common.{arith, ◌≡◌, ◌<◌, ℕ, List, [], ◌++◌, map, take, Option, Some, None, Result, Ok, Err, refl, ap, sym, ◌∙◌, subst, Torn, Shape, commits_at, log_size}
-use Rattle.silt_engine.proofs.Common.{log_rows, StoredRow, manifest_found, current_manifest, where_found, Body, Digests, SlotRecord, Map, map_after, Stores, image_digests, image_stores}
-use Rattle.silt_engine.proofs.Common.{AreDigestsOf, HasActive, IsSound, StandsFor, rows_of, command_of, map_of_rows, whole_law, map_law, rows_law, digests_law, stores_law, log_region_law}
-use Rattle.silt_engine.proofs.Common.{append_law, own_rows_law, beginning_law, stands_law}
+use Rattle.silt_engine.proofs.Common.{arith, ◌≡◌, ◌<◌, ℕ, List, [], ◌++◌, map, take, Option, Some, Result, Ok, refl, ap, sym, ◌∙◌, subst, Torn, Shape, commits_at, log_size, log_rows, StoredRow}
+use Rattle.silt_engine.proofs.Common.{manifest_found, current_manifest, where_found, Body, Digests, SlotRecord, Map, map_after, Stores, image_digests, image_stores, AreDigestsOf, HasActive, IsSound}
+use Rattle.silt_engine.proofs.Common.{StandsFor, rows_of, command_of, map_of_rows, whole_law, map_law, rows_law, digests_law, stores_law, log_region_law, append_law, own_rows_law, beginning_law}
+use Rattle.silt_engine.proofs.Common.{stands_law}
 use Rattle.std.proofs.lemmas.List.{append-nil}
 use Rattle.silt_manifest.specs.declared.slot.Damage.{Damage}
 use Rattle.silt_image.specs.Stores.{stores_named}
@@ -39,8 +39,7 @@ region_torn shape t region rows before image same named below torn are = search 
 -- the first log is the active one
 pub active_named : (shape : Shape) (body : Body) (t : Stores) (rows : List StoredRow) (image : List ℕ) → image_stores image ≡ Ok t
     → t.shape ≡ shape → t.body ≡ body → log_rows shape body.active image ≡ rows → HasActive rows t
-active_named shape body t rows image is same_shape same_body are =
-    rw (ap (λ (s : Shape). log_rows s t.body.active image) same_shape ∙ ap (λ (b : Body). log_rows shape b.active image) same_body ∙ are) at (whole_law image t is).active
+active_named shape body t rows image is same_shape same_body are = search (arith, whole_law)
 
 -- the map of an image with stores
 pub stores_map : (t : Stores) (image : List ℕ) → image_stores image ≡ Ok t → image_map image ≡ map_of_rows (rows_of t)
@@ -56,8 +55,7 @@ stands_for shape t said m image is same_shape sound are says has_map =
 
 -- a current record was found
 pub found_current : (r : Result SlotRecord Damage) (found : SlotRecord) → where_found r ≡ Some found → r ≡ Ok found
-found_current (Ok other) found e = ap Ok (let same : other ≡ found = let g : Some other ≡ Some found = e in cc in same)
-found_current (Err damage) found e = absurd (let no : None ≡ Some found = e in cc)
+found_current r found e = search arith
 
 -- an image with stores has the digests of the current record
 pub says_current : (shape : Shape) (t : Stores) (found : SlotRecord) (image : List ℕ) → image_stores image ≡ Ok t → t.shape ≡ shape

@@ -1,19 +1,15 @@
 -- A change of the manifest: each possible crash image has the stores that were, or those that the next record names.
-use Rattle.silt_engine.proofs.Common.{◌≡◌, ◌<◌, ◌⊎◌, ℕ, true, IsTrue, List, [], Some, None, Ok, inl, inr, refl, ap, sym, ◌∙◌, subst, arith, ChangesWithin, Content, Left, LeavesOnly, Torn}
-use Rattle.silt_engine.proofs.Common.{size, slot_at, shown_left, within_wider, current_manifest, ManifestState, IsCurrent, RecordIsCurrent, current_record, spare_slot, Body, Digests}
-use Rattle.silt_engine.proofs.Common.{SlotRecord, StandsFor, image_map, image_stores, EngineState, Stands, base_map, shown_stores, waiting_commands, Advances, Breaks, Remaps}
-use Rattle.silt_engine.proofs.Common.{MayBecomeCurrent, BecomesCurrent, within_trans, OldOrNewIsCurrent}
+use Rattle.silt_engine.proofs.Common.{◌≡◌, ◌<◌, ◌⊎◌, ℕ, true, IsTrue, List, [], Some, None, Ok, inl, inr, refl, ap, sym, ◌∙◌, subst, arith, ChangesWithin, Content, Left, LeavesOnly, Torn, size}
+use Rattle.silt_engine.proofs.Common.{slot_at, shown_left, within_wider, current_manifest, ManifestState, IsCurrent, RecordIsCurrent, current_record, spare_slot, Body, Digests, SlotRecord}
+use Rattle.silt_engine.proofs.Common.{StandsFor, image_map, image_stores, EngineState, Stands, base_map, shown_stores, waiting_commands, Advances, Breaks, Remaps, MayBecomeCurrent, BecomesCurrent}
+use Rattle.silt_engine.proofs.Common.{within_trans, OldOrNewIsCurrent}
 use Rattle.std.proofs.lemmas.List.{append-nil}
 use Rattle.silt_manifest.specs.Digests.{long_record}
 use Rattle.silt_engine.proofs.Facts.{active_is, base_is, base_stands}
-use Rattle.silt_engine.proofs.Freezes.{below_two}
 use Rattle.silt_engine.proofs.Named.{named_shape, says_current, stands_for, stores_map}
 use Rattle.silt_engine.proofs.Standing.{Fits, fits_stand, shown_are}
 use Rattle.silt_engine.proofs.Turns.{begun_none, quiet_remap, current_named, same_named, waiting_remap}
-
--- the record that was prepared
-same_some : (a b : SlotRecord) → Some a ≡ Some b → a ≡ b
-same_some a b e = cc
+use Rattle.silt_engine.proofs.Elsewhere.{honest_old, honest_new}
 
 -- in an image this record is current
 abbrev NextIsCurrent : EngineState → Body → Digests → List ℕ → Type 0
@@ -43,7 +39,7 @@ module _ (s : EngineState) (body : Body) (digests : Digests) (m : ManifestState)
   pub becomes_current : (old middle new : Content) (after : ManifestState) → ChangesWithin (slot_at (spare_slot s.manifest)) 4096 old middle → ChangesWithin (slot_at (spare_slot m)) 1 middle new
       → IsCurrent after new → after.shape ≡ m.shape → Some (current_record after) ≡ m.prepared → after.prepared ≡ None → BecomesCurrent old new s body digests after
   becomes_current old middle new after first second is_current same_shape opened idle =
-      let next : current_record after ≡ long_record body digests = same_some _ _ (opened ∙ ap (λ (n : ManifestState). n.prepared) is) in
+      let next : current_record after ≡ long_record body digests = (let e : Some (current_record after) ≡ Some (long_record body digests) = opened ∙ ap (λ (n : ManifestState). n.prepared) is in cc) in
       record {
         current = is_current;
         has_shape = same_shape ∙ ap (λ (n : ManifestState). n.shape) is;
@@ -58,20 +54,14 @@ module _ (s : EngineState) (body : Body) (digests : Digests) (m : ManifestState)
 module _ (old new : Content) (s : EngineState) (body : Body) (digests : Digests) (stands : Stands old s) (may : MayBecomeCurrent old s body digests) (sizes : size new ≡ size old)
     (changes : ChangesWithin (slot_at (spare_slot s.manifest)) 4096 old new) where
   slot_below : spare_slot s.manifest < 2
-  slot_below = below_two _
-
-  back : IsTrue new.honest → IsTrue old.honest
-  back h = subst IsTrue changes.honest h
-
-  there : IsTrue old.honest → IsTrue new.honest
-  there h = subst IsTrue (sym changes.honest) h
+  slot_below = omega arith
 
   -- an image in which the record is current has the stores that it names
   next_named : (h : IsTrue new.honest) (before image : List ℕ) → Left old before → Torn (slot_at (spare_slot s.manifest)) 4096 before image
       → NextIsCurrent s body digests image → image_stores image ≡ Ok may.stores
   next_named h before image left torn is_current =
-      current_named old new s _ slot_below stands sizes changes h before image _ (stands.named.each (back h) before left) torn is_current
-      ∙ ap Ok (may.names.each (back h) before left)
+      current_named old new s _ slot_below stands sizes changes h before image _ (stands.named.each (honest_old changes h) before left) torn is_current
+      ∙ ap Ok (may.names.each (honest_old changes h) before left)
 
   -- an image has the stores that were, and the old record is current
   abbrev StaysNamed : List ℕ → Type 0
@@ -86,9 +76,9 @@ module _ (old new : Content) (s : EngineState) (body : Body) (digests : Digests)
     old_or_new : LeavesOnly new (λ image. StaysNamed image ⊎ TurnsNamed image)
     old_or_new = record {
       each = λ h image left.
-          let from = changes.left (back h) image left in
+          let from = changes.left (honest_old changes h) image left in
           elim (each.each h image left) [
-            | inl stays ↦ inl (same_named old new s _ slot_below stands sizes changes h from.0 image (stands.named.each (back h) from.0 from.1) from.2 stays, stays)
+            | inl stays ↦ inl (same_named old new s _ slot_below stands sizes changes h from.0 image (stands.named.each (honest_old changes h) from.0 from.1) from.2 stays, stays)
             | inr turns ↦ inr (next_named h from.0 image from.1 from.2 turns, turns)
           ];
     }
@@ -101,14 +91,14 @@ module _ (old new : Content) (s : EngineState) (body : Body) (digests : Digests)
     pub manifest_breaks : Breaks old new s
     manifest_breaks = record {
       each = λ h image left. elim (old_or_new.each h image left) [
-        | inl stays ↦ begun_none old s image (base_stands old s stands (back h) image stays.0 stays.1)
-        | inr turns ↦ begun_none old s image (next_stands (back h) image turns)
+        | inl stays ↦ begun_none old s image (base_stands old s stands (honest_old changes h) image stays.0 stays.1)
+        | inr turns ↦ begun_none old s image (next_stands (honest_old changes h) image turns)
       ];
     }
 
     -- the map of what is shown
     shown_base : IsTrue old.honest → image_map new.shown ≡ base_map old s
-    shown_base h = elim (old_or_new.each (there h) new.shown (shown_left new)) [
+    shown_base h = elim (old_or_new.each (honest_new changes h) new.shown (shown_left new)) [
       | inl stays ↦ stores_map _ _ stays.0 ∙ sym (base_is old s)
       | inr turns ↦ stores_map _ _ turns.0 ∙ may.same_map h
     ]
@@ -117,7 +107,7 @@ module _ (old new : Content) (s : EngineState) (body : Body) (digests : Digests)
     pub manifest_map : Remaps [] old new s s
     manifest_map h = elim may.waiting [
       | inl quiet ↦ quiet_remap old new s _ slot_below stands sizes changes quiet s quiet.settled h (shown_base h)
-      | inr same ↦ elim (old_or_new.each (there h) new.shown (shown_left new)) [
+      | inr same ↦ elim (old_or_new.each (honest_new changes h) new.shown (shown_left new)) [
         | inl stays ↦ waiting_remap old new s _ slot_below stands sizes changes s _ refl (named_shape _ _ _) (active_is old s stands) h stays.0 (sym (base_is old s))
         | inr turns ↦ waiting_remap old new s _ slot_below stands sizes changes s _ refl may.has_shape (ap (λ (b : Body). b.active) may.has_body ∙ same) h turns.0 (may.same_map h)
       ]

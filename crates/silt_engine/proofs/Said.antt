@@ -1,9 +1,8 @@
 -- When the digests of a record are those of the stores.
-use Rattle.silt_engine.proofs.Common.{◌≡◌, ◌<◌, ℕ, ◌-◌, IsTrue, List, [], ◌∷◌, suc, length, map, take, get_or, replicate, Some, refl, ap, sym, ◌∙◌, arith, All, get_or-map, length-map}
-use Rattle.silt_engine.proofs.Common.{take-map, get_or_from_slice_get, slice_get_within, Content, Shape, StoredRow, Digest, hash_part, HashState, IsHashStore, AreDigestsOf, entries_digest}
-use Rattle.silt_engine.proofs.Common.{part_digest, Stores, Part, Body, IndexedState, EngineState, hash_region_of, Stands, shown_stores, digest_of, merged_digests, no_digest, own_digests}
-use Rattle.silt_engine.proofs.Common.{padded, ◌≤◌, ◌+◌, Bool, ◌++◌, Option, None, append_assoc, option_to_list, length-take, get_or_append_left, map_more, converted_digests, slice_set}
-use Rattle.silt_engine.proofs.Common.{set-append_seam}
+use Rattle.silt_engine.proofs.Common.{◌≡◌, ◌<◌, ℕ, ◌-◌, IsTrue, List, [], ◌∷◌, suc, length, map, take, get_or, replicate, Some, refl, ap, sym, ◌∙◌, arith, All, get_or-map, length-map, take-map}
+use Rattle.silt_engine.proofs.Common.{get_or_from_slice_get, slice_get_within, Content, Shape, StoredRow, Digest, hash_part, HashState, IsHashStore, AreDigestsOf, entries_digest, part_digest}
+use Rattle.silt_engine.proofs.Common.{Stores, Part, Body, IndexedState, EngineState, hash_region_of, Stands, shown_stores, digest_of, merged_digests, no_digest, own_digests, padded, ◌≤◌, ◌+◌, Bool}
+use Rattle.silt_engine.proofs.Common.{◌++◌, Option, None, append_assoc, option_to_list, length-take, get_or_append_left, map_more, converted_digests, slice_set, set-append_seam}
 use Rattle.silt_image.specs.Meaning.{with_new_log}
 use Rattle.silt_image.specs.Stores.{stores_named}
 use Rattle.silt_engine.specs.Replacements.{with_converted, with_merged}
@@ -31,9 +30,7 @@ are_said ds sorted t same entries =
             get_or-map part_digest t.hashes place part [] inside,
             get_or_from_slice_get t.hashes place part part here,
           );
-      sorted = λ digest is.
-          let said : sorted.0 ≡ digest = (let e : Some sorted.0 ≡ Some digest = is in cc) in
-          sym said ∙ entries;
+      sorted = search arith;
     }
 
 -- ---- the stores that are shown
@@ -71,9 +68,7 @@ module _ (content : Content) (s : EngineState) (stands : Stands content s) (hone
   -- with a hash store in front of the others
   pub converted_said : (body : Body) (part : Part) (digest : List ℕ) → digest ≡ part_digest part → AreDigestsOf (Some (converted_digests s digest)) (with_converted body part (shown_stores content s))
   unfolding with_converted
-  converted_said body part digest is =
-      are_said (record { 0 = digest } ∷ map digest_of s.hashes) (record { 0 = s.digest }) (with_converted body part (shown_stores content s)) (ap (λ (l : List
-      (List ℕ)). part_digest part ∷ l) hashes_said ∙ ap (λ (d : List ℕ). d ∷ map bytes_of (map digest_of s.hashes)) (sym is)) entries_said
+  converted_said body part digest is = are_said (record { 0 = digest } ∷ map digest_of s.hashes) _ _ (search (arith, hashes_said)) entries_said
 
   -- without the oldest hash stores, and with other entries
   pub merged_said : (body : Body) (count : ℕ) (entries : List StoredRow) (store : IndexedState) → store.digest ≡ entries_digest entries

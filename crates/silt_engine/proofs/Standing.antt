@@ -1,13 +1,13 @@
 -- When stores stand on a disk, from the stores that its images have.
-use Rattle.silt_engine.proofs.Common.{◌≡◌, ℕ, IsTrue, List, [], ◌∷◌, ◌++◌, None, Ok, inr, ap, sym, ◌∙◌, subst, arith, All, IfSome, ChangesWithin, Content, LeavesOnly, Torn, size, Shape}
-use Rattle.silt_engine.proofs.Common.{device_size, commits_at, log_size, shown_left, log_rows, StoredRow, put_count, LogState, all_rows, waiting_rows, IsLogStore, HasWritten, IsHashStore}
-use Rattle.silt_engine.proofs.Common.{Stores, image_stores, AreDigestsOf, IsSound, rows_of, with_log_rows, IsCurrent, current_record_elsewhere, AreWhole, EngineState, oldest_log}
-use Rattle.silt_engine.proofs.Common.{HasGathered, IsDigested, IsFrozen, IsLocated, Stands, shown_stores, entries_behind_log, torn_trans}
+use Rattle.silt_engine.proofs.Common.{◌≡◌, IsTrue, List, [], ◌∷◌, ◌++◌, None, Ok, inr, ap, sym, ◌∙◌, arith, All, IfSome, ChangesWithin, Content, LeavesOnly, Torn, size, device_size, commits_at}
+use Rattle.silt_engine.proofs.Common.{log_size, shown_left, log_rows, StoredRow, put_count, LogState, all_rows, waiting_rows, IsLogStore, HasWritten, IsHashStore, Stores, image_stores, AreDigestsOf}
+use Rattle.silt_engine.proofs.Common.{IsSound, rows_of, with_log_rows, IsCurrent, current_record_elsewhere, AreWhole, EngineState, oldest_log, HasGathered, IsDigested, IsFrozen, IsLocated, Stands}
+use Rattle.silt_engine.proofs.Common.{shown_stores, entries_behind_log, torn_trans}
 use Rattle.silt_log.specs.State as log
 use Rattle.silt_engine.proofs.Named.{named_here}
 use Rattle.silt_engine.proofs.Facts.{active_below, full_torn, torn_active}
 use Rattle.silt_engine.proofs.Elsewhere.{all_frozen_elsewhere, all_hashed_elsewhere, digested_elsewhere, located_elsewhere, merged_all_elsewhere, not_active, outside_other, slots_behind_log}
-use Rattle.silt_engine.proofs.Elsewhere.{written_all_elsewhere, IsApart, region_before_conversion, region_before_merge}
+use Rattle.silt_engine.proofs.Elsewhere.{written_all_elsewhere, IsApart, region_before_conversion, region_before_merge, honest_old}
 
 -- the stores that are shown are those that all images have
 pub shown_are : (content : Content) (s : EngineState) (t : Stores) → t.shape ≡ s.manifest.shape → t.body ≡ s.manifest.current
@@ -65,9 +65,6 @@ after_same (x ∷ xs) ys zs e = after_same xs ys zs (cc)
 
 module _ (old new : Content) (s : EngineState) (stands : Stands old s) (sizes : size new ≡ size old)
     (changes : ChangesWithin (commits_at s.active.log.shape s.active.log.region) (log_size s.active.log.shape) old new) where
-  pub back : IsTrue new.honest → IsTrue old.honest
-  back h = subst IsTrue changes.honest h
-
   -- in the manifest's words
   pub changes_active : ChangesWithin (commits_at s.manifest.shape s.manifest.current.active) (log_size s.manifest.shape) old new
   changes_active = rw (stands.whole.has_shape, stands.whole.active_region) at changes
@@ -105,8 +102,8 @@ module _ (old new : Content) (s : EngineState) (stands : Stands old s) (sizes : 
       → LeavesOnly new (λ image. image_stores image ≡ Ok (with_log_rows s.manifest.current.active rows (shown_stores old s)))
   named_with rows images = record {
     each = λ h image left.
-        let from = changes.left (back h) image left in
-        torn_active old s stands from.0 image rows (stands.named.each (back h) from.0 from.1) from.2 (images.each h image left);
+        let from = changes.left (honest_old changes h) image left in
+        torn_active old s stands from.0 image rows (stands.named.each (honest_old changes h) from.0 from.1) from.2 (images.each h image left);
   }
 
   -- with these rows of the log in the full image, that has the stores with them
@@ -114,9 +111,6 @@ module _ (old new : Content) (s : EngineState) (stands : Stands old s) (sizes : 
       → log_rows s.active.log.shape s.active.log.region (log.opened_image new l) ≡ rows
       → image_stores (log.opened_image new l) ≡ Ok (with_log_rows s.manifest.current.active rows (shown_stores old s))
   full_with h l rows same_shape same_region bounds are =
-      let opened : Torn (commits_at l.shape l.region) (log_size l.shape) new.shown (log.opened_image new l) =
-      full_torn new l bounds (cc (stands.has_size, stands.whole.has_shape, same_shape)) in
-      let here : Torn (commits_at s.active.log.shape s.active.log.region) (log_size s.active.log.shape) new.shown (log.opened_image new l) =
-      subst (λ (n : ℕ). Torn (commits_at s.active.log.shape n) (log_size s.active.log.shape) new.shown (log.opened_image new l)) same_region
-      (subst (λ (sh : Shape). Torn (commits_at sh l.region) (log_size sh) new.shown (log.opened_image new l)) same_shape opened) in
-      torn_active old s stands old.shown (log.opened_image new l) rows (stands.named.each (back h) old.shown (shown_left old)) (torn_trans (changes.shown (back h)) here) are
+      let opened : Torn (commits_at l.shape l.region) (log_size l.shape) new.shown (log.opened_image new l) = full_torn new l bounds (cc (stands.has_size, stands.whole.has_shape, same_shape)) in
+      let here : Torn (commits_at s.active.log.shape s.active.log.region) (log_size s.active.log.shape) new.shown (log.opened_image new l) = search (arith, same_shape) in
+      torn_active old s stands _ _ rows (stands.named.each (honest_old changes h) old.shown (shown_left old)) (torn_trans (changes.shown (honest_old changes h)) here) are

@@ -1,8 +1,8 @@
 -- What is exchanged in memory at the end of a conversion.
 use Rattle.silt_engine.proofs.Common.{◌≡◌, ℕ, ◌+◌, ◌-◌, ◌++◌, ◌∷◌, List, [], get_or, length, take, Option, Some, None, refl, ap, sym, ◌∙◌, subst, arith, IfSome, option_to_list, length-map}
-use Rattle.silt_engine.proofs.Common.{take-append_seam, LogStoreState, ConversionState, IsDigestOf, HashState, IsHeldHash, ManifestState, AreWhole, EngineState, hash_region_of, oldest_log}
-use Rattle.silt_engine.proofs.Common.{MayReplace, ReplacesOldest, oldest_replaced, store_of, drop, length-drop, take_all, MergeState, IndexedState, MayStandFor, puts_in, sorted_replaced}
-use Rattle.silt_engine.proofs.Common.{insert, IsSome, same_Some, sorted_in}
+use Rattle.silt_engine.proofs.Common.{take-append_seam, LogStoreState, ConversionState, IsDigestOf, HashState, IsHeldHash, ManifestState, AreWhole, EngineState, hash_region_of, MayReplace}
+use Rattle.silt_engine.proofs.Common.{ReplacesOldest, oldest_replaced, store_of, drop, length-drop, take_all, MergeState, IndexedState, MayStandFor, puts_in, sorted_replaced, insert, IsSome}
+use Rattle.silt_engine.proofs.Common.{same_Some, sorted_in, oldest_log}
 use Rattle.std.proofs.Common.{length-append}
 
 -- a list with an element put in front
@@ -47,11 +47,11 @@ module _ (s : EngineState) (m : ManifestState) (may : MayReplace s m) (ended : C
   same : ended ≡ may.conversion
   same = same_conversion ended _ _ (sym taken_is ∙ taken_some) may.was
 
-  off : (frozen ≡ take (length s.frozen - 1) s.frozen) × (log ≡ oldest_log s)
-  off = last_off _ frozen log _ popped frozen_items popped_some
-
   is_store : made ≡ store_of may.conversion digest
   is_store = cc same
+
+  off : (frozen ≡ take (length s.frozen - 1) s.frozen) × (log ≡ oldest_log s)
+  off = last_off _ frozen log _ popped frozen_items popped_some
 
   -- the stores afterwards
   abbrev now : EngineState

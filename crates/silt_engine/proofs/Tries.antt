@@ -1,6 +1,6 @@
 -- A merge whose builder has made a trie.
-use Rattle.silt_engine.proofs.Common.{arith, ℕ, List, Option, Content, HashState, HasCompared, HasMerged, IsGatheredIn, IsMergedIn, IsHeldMerge, MergeState, SortedState, MarkedCode}
-use Rattle.silt_engine.proofs.Common.{EngineState, IsMerging}
+use Rattle.silt_engine.proofs.Common.{arith, ℕ, List, Option, Content, HashState, HasCompared, HasMerged, IsGatheredIn, IsMergedIn, IsHeldMerge, MergeState, SortedState, MarkedCode, EngineState}
+use Rattle.silt_engine.proofs.Common.{IsMerging}
 
 -- a merge whose builder has this trie
 abbrev pub with_trie : MergeState → Option MarkedCode → MergeState

@@ -1,14 +1,13 @@
 -- A change of a slot of the manifest: in each image the old record is current, or another one.
-use Rattle.silt_engine.proofs.Common.{arith, ◌≡◌, ◌<◌, ℕ, IsTrue, List, [], Some, Ok, refl, ap, sym, ◌∙◌, subst, ChangesWithin, Content, Torn, size, Shape, slot_at, KeepsRows, waiting_rows}
-use Rattle.silt_engine.proofs.Common.{waiting_kept, manifest_found, current_manifest, RecordIsCurrent, SlotRecord, Stores, image_stores, stores_named, StandsFor, image_map, rows_of}
-use Rattle.silt_engine.proofs.Common.{map_of_rows, EngineState, Stands, base_map, full_image, shown_stores, waiting_commands, HoldsPrefix, IsQuiet, All, IfSome, HasWritten, IsHashStore}
-use Rattle.silt_engine.proofs.Common.{spare_slot, oldest_log, HasGathered, IsDigested, IsFrozen, IsLocated, manifest_law}
+use Rattle.silt_engine.proofs.Common.{arith, ◌≡◌, ◌<◌, ℕ, IsTrue, List, [], Some, Ok, refl, ap, ◌∙◌, ChangesWithin, Content, Torn, size, Shape, slot_at, KeepsRows, waiting_rows, waiting_kept}
+use Rattle.silt_engine.proofs.Common.{manifest_found, current_manifest, RecordIsCurrent, SlotRecord, Stores, image_stores, stores_named, StandsFor, image_map, rows_of, map_of_rows, EngineState}
+use Rattle.silt_engine.proofs.Common.{Stands, base_map, full_image, shown_stores, waiting_commands, HoldsPrefix, IsQuiet, All, IfSome, HasWritten, IsHashStore, spare_slot, oldest_log, HasGathered}
+use Rattle.silt_engine.proofs.Common.{IsDigested, IsFrozen, IsLocated, manifest_law}
 use Rattle.silt_log.specs.State as log
 use Rattle.silt_engine.proofs.Named.{found_current, named_body, named_here, named_shape}
 use Rattle.silt_engine.proofs.Facts.{full_map, opened_map}
-use Rattle.silt_engine.proofs.Elsewhere.{outside_slot, IsApart, all_frozen_elsewhere, all_hashed_elsewhere, digested_elsewhere, located_elsewhere, merged_all_elsewhere}
-use Rattle.silt_engine.proofs.Elsewhere.{written_all_elsewhere}
-use Rattle.silt_engine.proofs.Freezes.{full_quiet, kept, quiet_map, slot_apart, below_two, slot_before_conversion, slot_before_merge}
+use Rattle.silt_engine.proofs.Elsewhere.{outside_slot, IsApart, all_frozen_elsewhere, all_hashed_elsewhere, digested_elsewhere, located_elsewhere, merged_all_elsewhere, written_all_elsewhere}
+use Rattle.silt_engine.proofs.Freezes.{full_quiet, kept, quiet_map, slot_apart, slot_before_conversion, slot_before_merge}
 
 -- an image that represents the base represents it after none of what waited
 pub begun_none : (content : Content) (s : EngineState) (image : List ℕ) → StandsFor s.manifest.shape (base_map content s) image
@@ -16,18 +15,9 @@ pub begun_none : (content : Content) (s : EngineState) (image : List ℕ) → St
 begun_none content s image stands = record { kept = []; begins = record { rest = waiting_commands content s; is = refl }; stands = stands }
 
 module _ (old new : Content) (s : EngineState) (slot : ℕ) (below : slot < 2) (stands : Stands old s) (sizes : size new ≡ size old) (changes : ChangesWithin (slot_at slot) 4096 old new) where
-  back : IsTrue new.honest → IsTrue old.honest
-  back h = subst IsTrue changes.honest h
-
-  there : IsTrue old.honest → IsTrue new.honest
-  there h = subst IsTrue (sym changes.honest) h
-
-  slots_apart : IsTrue old.honest → IsApart s.manifest.shape s.manifest.current (slot_at slot) 4096
-  slots_apart h = slot_apart s.manifest.shape s.manifest.current slot below
-
   -- the active log matches the disk as before
   pub active_kept : KeepsRows old new s.active.log s.active.log
-  active_kept = kept old new s (slot_at slot) 4096 stands sizes changes slots_apart (outside_slot s.manifest.shape s.manifest.current.active slot below)
+  active_kept = kept old new s _ _ stands sizes changes (λ h. slot_apart _ _ slot below) (outside_slot s.manifest.shape s.manifest.current.active slot below)
 
   -- an image in which this record is current has the stores that it names in an earlier image
   pub current_named : (h : IsTrue new.honest) (before image : List ℕ) (found : SlotRecord) → image_stores before ≡ Ok (shown_stores old s) → Torn (slot_at slot) 4096 before image
@@ -56,7 +46,7 @@ module _ (old new : Content) (s : EngineState) (slot : ℕ) (below : slot < 2) (
 
 module _ (old new : Content) (s : EngineState) (stands : Stands old s) (sizes : size new ≡ size old) (changes : ChangesWithin (slot_at (spare_slot s.manifest)) 4096 old new) where
   pub slot_below : spare_slot s.manifest < 2
-  slot_below = below_two _
+  slot_below = omega arith
 
   apart : IsApart s.manifest.shape s.manifest.current (slot_at (spare_slot s.manifest)) 4096
   apart = slot_apart s.manifest.shape s.manifest.current (spare_slot s.manifest) slot_below

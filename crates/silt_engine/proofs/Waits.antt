@@ -1,9 +1,9 @@
 -- Whether the row that a lookup found waits for a flush.
-use Rattle.silt_engine.proofs.Common.{◌≡◌, ◌≢◌, ◌<◌, ◌≤◌, ◌+◌, ◌-◌, ◌||◌, ℕ, Bool, true, false, nat_le, IsTrue, List, [], ◌∷◌, ◌++◌, length, map, get_or, Option, Some, None, inl, inr, refl}
-use Rattle.silt_engine.proofs.Common.{ap, sym, ◌∙◌, subst, arith, list_any, bytes_eq, get, get-insert, get-remove, cases_lt, le-leb, nat_list_cmp_total, get_or-map, list_any_at}
-use Rattle.silt_engine.proofs.Common.{get_or_from_slice_get, slice_get_within, bytes_eq-Decides, Command, Map, changed, delete, map_after, put, command_of, StoredRow, keys_of, FindsLast}
-use Rattle.silt_engine.proofs.Common.{HasNoRow, IsLastRow, Found, all_rows, settled_rows, waiting_rows, all_are_settled_and_waiting, all_count, IsIndexed, Content, EngineState, Stands}
-use Rattle.silt_engine.proofs.Common.{waiting_commands, Active, lt-leb, get_or-append-add, get_or-append_right, list_any_none, same_key, changes_key, is_of_key, is_waiting_row}
+use Rattle.silt_engine.proofs.Common.{◌≡◌, ◌≢◌, ◌<◌, ◌≤◌, ◌+◌, ◌-◌, ◌||◌, ℕ, Bool, true, false, nat_le, IsTrue, List, [], ◌∷◌, ◌++◌, length, map, get_or, Option, Some, None, inl, inr, refl, ap, sym}
+use Rattle.silt_engine.proofs.Common.{◌∙◌, subst, arith, list_any, bytes_eq, get, get-insert, get-remove, cases_lt, le-leb, nat_list_cmp_total, get_or-map, list_any_at, get_or_from_slice_get}
+use Rattle.silt_engine.proofs.Common.{slice_get_within, bytes_eq-Decides, Command, Map, changed, delete, map_after, put, command_of, StoredRow, keys_of, FindsLast, HasNoRow, IsLastRow, Found}
+use Rattle.silt_engine.proofs.Common.{all_rows, settled_rows, waiting_rows, all_are_settled_and_waiting, all_count, IsIndexed, Content, EngineState, Stands, waiting_commands, Active, lt-leb}
+use Rattle.silt_engine.proofs.Common.{get_or-append-add, get_or-append_right, list_any_none, same_key, changes_key, is_of_key, is_waiting_row}
 use Rattle.std.proofs.Common.{length-append}
 use Rattle.silt_engine.proofs.Lookups.{other_key}
 
@@ -21,9 +21,7 @@ neither false b none = (refl, none)
 -- and after commands of other ones
 pub others_stay : (m : Map) (commands : List Command) (key : List ℕ) → changes_key commands key ≡ false → get (map_after m commands) key ≡ get m key
 others_stay m [] key none = refl
-others_stay m (command ∷ commands) key none =
-    let differ = neither _ _ none in
-    others_stay (changed m command) commands key differ.1 ∙ other_stays m command key differ.0
+others_stay m (command ∷ commands) key none = search (arith, others_stay (changed m command) commands key, other_stays)
 
 -- ---- rows and their commands
 
@@ -45,10 +43,7 @@ module _ (settled waiting : List StoredRow) (key : List ℕ) where
 
   -- so none waits, if the place is not behind the settled rows
   none_waits : (from : ℕ) → from ≤ length settled → LacksFrom from → changes_key (map command_of waiting) key ≡ false
-  none_waits from before lacks =
-      of_rows key _
-      ∙ list_any_none (λ (row : StoredRow). bytes_eq row.key key) waiting (λ index default inside. other_key (get_or waiting index default).key key
-      (λ same. lacks (length settled + index) (omega (arith, before)) (omega (arith, inside, length-append settled waiting)) (key_behind index _ inside ∙ same)))
+  none_waits from before lacks = of_rows key _ ∙ list_any_none (λ (row : StoredRow). bytes_eq row.key key) waiting (search (arith, other_key, length-append, key_behind))
 
   -- a row of the key behind the settled rows waits
   one_waits : (place : ℕ) (row : StoredRow) → length settled ≤ place → IsLastRow (settled ++ waiting) key place row → changes_key (map command_of waiting) key ≡ true
@@ -57,13 +52,12 @@ module _ (settled waiting : List StoredRow) (key : List ℕ) where
       sym (get_or-append_right settled waiting (length settled) place row refl behind) ∙ get_or_from_slice_get (settled ++ waiting) place row row is.there in
       of_rows key _
       ∙ list_any_at (λ (row : StoredRow). bytes_eq row.key key) waiting (place - length settled) row
-      (omega (arith, behind, slice_get_within (settled ++ waiting) place row is.there, length-append settled waiting))
-      ((bytes_eq-Decides (get_or waiting (place - length settled) row).key key).1 (ap (λ (r : StoredRow). r.key) here ∙ is.has_key))
+      (omega (arith, behind, slice_get_within (settled ++ waiting) place row is.there, length-append settled waiting)) (search (arith, bytes_eq-Decides))
 
   -- the last row of the key waits exactly if a waiting command changes the key
   last_waits : (found : Found) → FindsLast (settled ++ waiting) key (Some found) → nat_le (length settled) found.place ≡ changes_key (map command_of waiting) key
   last_waits found (row, is, kind) = elim (cases_lt found.place (length settled)) [
-    | inl before ↦ lt-leb (length settled) found.place before ∙ sym (none_waits (found.place + 1) (omega (arith, before)) (λ place past inside. is.last place (omega (arith, past)) inside))
+    | inl before ↦ search (arith, lt-leb, none_waits, is.last)
     | inr behind ↦ le-leb (length settled) found.place behind ∙ sym (one_waits _ row behind is)
   ]
 
@@ -84,9 +78,7 @@ module _ (content : Content) (view s : EngineState) (is : view ≡ s) (key : Lis
 
   -- it is there
   pub active_waits : (found : Found) → o ≡ Some found → is_waiting_row s (Some (Active, found)) ≡ changes_key (waiting_commands content s) key
-  active_waits found some =
-      ap (λ (n : ℕ). nat_le n found.place) (sym (all_count content (record s.active.log { used = s.active.log.settled })))
-      ∙ last_waits (settled_rows content s.active.log) (waiting_rows content s.active.log) key found (rw some at finds_last)
+  active_waits found some = ap (λ (n : ℕ). nat_le n found.place) (sym (all_count content (record s.active.log { used = s.active.log.settled }))) ∙ last_waits _ _ key found (rw some at finds_last)
 
   -- it is not, so no row of the key waits
   pub nothing_waits : o ≡ None → false ≡ changes_key (waiting_commands content s) key

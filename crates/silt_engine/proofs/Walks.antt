@@ -1,8 +1,8 @@
 -- A lookup, at its exits.
 use Rattle.silt_engine.proofs.Common.{◌≡◌, ◌<◌, ◌+◌, ◌*◌, ℕ, true, false, IsTrue, List, [], length, get_or, Option, Some, None, refl, ap, sym, ◌∙◌, subst, arith, IfSome, get, cases_lt}
-use Rattle.silt_engine.proofs.Common.{get_or_default, Content, is_put, Kind, Put, Delete, slot_row, HashState, IsHashStore, holds_key, sorted_findings, row_at, all_rows, IsIndexed}
-use Rattle.silt_engine.proofs.Common.{LogStoreState, FindsLast, HasNoRow, put_place, Found, StoredRow, IsIndexOf, HasNoEntry, HasOnlyValue, entries_of, Holder, Active, Frozen, Hashed}
-use Rattle.silt_engine.proofs.Common.{EngineState, Stands, current_map, FindsFrozen, FindsHashed, FindsNewest, frozen_at, hash_store_at, hash_rows_of, row_in, FindsRow, IsItsValue}
+use Rattle.silt_engine.proofs.Common.{get_or_default, Content, is_put, Kind, Put, Delete, slot_row, HashState, IsHashStore, holds_key, sorted_findings, row_at, all_rows, IsIndexed, LogStoreState}
+use Rattle.silt_engine.proofs.Common.{FindsLast, HasNoRow, put_place, Found, StoredRow, IsIndexOf, HasNoEntry, HasOnlyValue, entries_of, Holder, Active, Frozen, Hashed, EngineState, Stands}
+use Rattle.silt_engine.proofs.Common.{current_map, FindsFrozen, FindsHashed, FindsNewest, frozen_at, hash_store_at, hash_rows_of, row_in, FindsRow, IsItsValue}
 use Rattle.silt_engine.proofs.Lookups.{entries_sound, found_active, found_frozen, found_hashed, found_nowhere, found_value, past_hashed}
 
 -- by the row of a holder, its value
@@ -95,10 +95,7 @@ module _ (content : Content) (view s : EngineState) (is : view ≡ s) (key : Lis
     (walked : Option (ℕ × Found)) (walks : Stands content s → IsTrue content.honest → FindsFrozen content s key walked) (stands : Stands content s) (honest : IsTrue content.honest) where
   -- the active log has no row of the key
   active_lacks : HasNoRow (all_rows content s.active.log) key
-  active_lacks =
-      let found : FindsLast (all_rows content s.active.log) key o =
-      subst (λ (v : EngineState). IsTrue content.honest → IsIndexed content v.active → FindsLast (all_rows content v.active.log) key o) is finds honest stands.indexed in
-      subst (FindsLast (all_rows content s.active.log) key) none found
+  active_lacks = search (arith, stands.indexed)
 
   -- and a frozen log has one
   pub newest_frozen : (number : ℕ) (found : Found) → IfSome walked (λ row. (row.0 < length s.frozen) × (row.1.place < (frozen_at s row.0).log.used)) → walked ≡ Some (number, found)

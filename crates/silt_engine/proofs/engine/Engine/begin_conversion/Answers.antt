@@ -1,5 +1,5 @@
-use Rattle.silt_engine.proofs.Common.{◌≡◌, ◌-◌, List, [], length, None, refl, ap, sym, ◌∙◌, subst, arith, rules, option_copied, InLimits, Shape, device_size, LogStoreState, EngineState}
-use Rattle.silt_engine.proofs.Common.{Stands, convert_turn, Finished, Moved, Progress, step_syncs, step_writes, Idle, Makes, none_made}
+use Rattle.silt_engine.proofs.Common.{◌≡◌, ◌-◌, List, [], length, None, refl, ap, sym, ◌∙◌, subst, arith, rules, option_copied, InLimits, Shape, device_size, LogStoreState, EngineState, Stands}
+use Rattle.silt_engine.proofs.Common.{convert_turn, Finished, Moved, Progress, step_syncs, step_writes, Idle, Makes, none_made}
 use Rattle.silt_engine.proofs.engine.Engine.begin_conversion.Given as given
 use Rattle.std.specs.Prelude.{slice_get}
 use Rattle.silt_engine.specs.Conversion.{refusal_of_step}

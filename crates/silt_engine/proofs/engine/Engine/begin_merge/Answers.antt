@@ -1,8 +1,8 @@
-use Rattle.silt_engine.proofs.Common.{◌≡◌, ◌≤◌, ◌-◌, ℕ, false, [], length, Some, None, refl, ap, sym, ◌∙◌, arith, length-map, Shape, Finished, Moved, EngineState, hash_region_of, Stands}
-use Rattle.silt_engine.proofs.Common.{none_made, HasGathered}
+use Rattle.silt_engine.proofs.Common.{◌≡◌, ◌≤◌, ◌-◌, ℕ, false, [], length, Some, None, refl, ap, sym, ◌∙◌, arith, length-map, Shape, Finished, Moved, EngineState, hash_region_of, Stands, none_made}
+use Rattle.silt_engine.proofs.Common.{HasGathered}
 use Rattle.silt_engine.proofs.engine.Engine.begin_merge.Given as given
 use Rattle.silt_engine.specs.Merge.{refusal_of_step}
-use Rattle.silt_engine.proofs.Counting.{sound_hashes}
+use Rattle.silt_engine.proofs.Counting.{tests_of}
 use Rattle.silt_engine.proofs.MergeSteps.{begin_merges, begun, failed_map, first_lacks, found_by, most_made, some_stores, started_not_done, started_sound, started_way, started_written}
 use Rattle.silt_engine.proofs.MergeSteps.{step_advances, step_cause, step_disk, step_made, steps_in, taken_shapes, way_after, BeginsMerge, begins_turn}
 use Rattle.silt_engine.proofs.Exits.{on_error, state_of, nothing_done, went, went_off, refused}
@@ -78,7 +78,7 @@ returns-then-is_empty-clause-works g c = nothing_done g.D.Disk _ _ _ c.requires.
 pub start-requires-clause-most : goal.start-requires-clause-most
 start-requires-clause-most g c =
     let stores : EngineState = state_of c.self.inside in
-    let most = (sound_hashes stores.manifest.shape _ stores.manifest.current c.current-known.ensures.sound).most in
+    let most = (tests_of stores.manifest.shape _ stores.manifest.current c.current-known.ensures.sound).most in
     let regions : c.hashes-known.result ≡ stores.manifest.shape.hashes = c.hashes-known.ensures.value ∙ ap (λ (sh : Shape). sh.hashes) c.geometry.ensures.value in
     let limit : c.hashes-known.result ≤ 16 = omega (arith, c.hashes-known.ensures.value, c.hashes-known.ensures.limits.hashes_most) in
     let count : length c.deref.result.now ≡ length stores.manifest.current.hashed =

@@ -1,5 +1,5 @@
-use Rattle.silt_engine.proofs.Common.{◌≡◌, ◌-◌, ◌++◌, ℕ, List, drop, map, sym, subst, arith, Map, oldest_first, StoredRow, all_rows, SortedState, entries_of, DoesRows, hashed_rows}
-use Rattle.silt_engine.proofs.Common.{AreEntriesOf, EngineState}
+use Rattle.silt_engine.proofs.Common.{◌≡◌, ◌-◌, ◌++◌, ℕ, List, drop, map, sym, subst, arith, Map, oldest_first, StoredRow, all_rows, SortedState, entries_of, DoesRows, hashed_rows, AreEntriesOf}
+use Rattle.silt_engine.proofs.Common.{EngineState}
 use Rattle.silt_engine.proofs.Folds.{does_all, does_log, does_more}
 use Rattle.silt_engine.proofs.Lookups.{current_is, rows_in}
 use Rattle.silt_engine.proofs.Exits.{state_of}

@@ -1,5 +1,5 @@
-use Rattle.silt_engine.proofs.Common.{◌≡◌, ◌-◌, List, [], length, Option, Some, ap, sym, ◌∙◌, subst, option_copied, LogStoreState, ConversionState, AreWhole, EngineState, Stands}
-use Rattle.silt_engine.proofs.Common.{convert_turn, Moved}
+use Rattle.silt_engine.proofs.Common.{◌≡◌, ◌-◌, List, [], length, Option, Some, ap, sym, ◌∙◌, subst, option_copied, LogStoreState, ConversionState, AreWhole, EngineState, Stands, convert_turn}
+use Rattle.silt_engine.proofs.Common.{Moved}
 use Rattle.silt_engine.proofs.engine.Engine.step_conversion.Given as given
 use Rattle.std.specs.Prelude.{slice_get}
 use Rattle.silt_engine.specs.Conversion.{refusal_of_step}

@@ -1,9 +1,8 @@
-use Rattle.silt_engine.proofs.Common.{◌≡◌, [], Option, Some, refl, ap, sym, ◌∙◌, subst, IfSome, MergeState, oldest_stores, TakesMemory, EngineState, Stands, written_by_merge, damaged_in}
-use Rattle.silt_engine.proofs.Common.{merge_turn, Moved, HasGathered, IsMerging}
+use Rattle.silt_engine.proofs.Common.{◌≡◌, [], Option, Some, refl, ap, sym, ◌∙◌, subst, IfSome, MergeState, oldest_stores, TakesMemory, EngineState, Stands, written_by_merge, damaged_in, merge_turn}
+use Rattle.silt_engine.proofs.Common.{Moved, HasGathered, IsMerging}
 use Rattle.silt_engine.proofs.engine.Engine.step_merge.Given as given
 use Rattle.silt_engine.specs.Merge.{refusal_of_step}
-use Rattle.silt_engine.proofs.MergeSteps.{failed_map, found_by, gathered_of, merging_of, most_made, next_merges, step_advances, step_cause, step_disk, step_made, steps_in, taken_shapes}
-use Rattle.silt_engine.proofs.MergeSteps.{way_after}
+use Rattle.silt_engine.proofs.MergeSteps.{failed_map, found_by, gathered_of, merging_of, most_made, next_merges, step_advances, step_cause, step_disk, step_made, steps_in, taken_shapes, way_after}
 use Rattle.silt_engine.proofs.Exits.{on_error, state_of, went, went_off}
 use Rattle.silt_engine.proofs.Wholes.{whole_with}
 use Rattle.silt_engine.proofs.engine.Engine.step_merge.Goals.{In-Some}
