@@ -1,12 +1,8 @@
 -- The key that is decided next is the lowest one, and by what it is decided.
-use Rattle.silt_merge.proofs.Common.{◌≡◌, ◌≢◌, ℕ, ◌<◌, nat_lt, Bool, true, false, List, [], length, slice_get, Option, Some, None, option_map, inl, inr, refl, sym, subst, ap, ◌∙◌, Ordering}
-use Rattle.silt_merge.proofs.Common.{Less, Equal, Greater, slice_cmp, exact_bytes, slice_get_within, Key, entry_row, StoredRow, key_of_row, key_at, IsNextEntry, is_above, is_behind}
-use Rattle.silt_merge.proofs.Common.{source_at, Choice, Source}
-use Rattle.std.proofs.Common.{is_some, lt-ltb, arith}
-use Rattle.std.specs.Ordering.{match_ordering, nat_cmp}
+use Rattle.silt_merge.proofs.Common.{◌≡◌, ◌≢◌, ℕ, ◌<◌, nat_lt, Bool, true, false, List, [], length, slice_get, Option, Some, None, option_map, inl, inr, refl, sym, subst, ap, ◌∙◌, Ordering, Less}
+use Rattle.silt_merge.proofs.Common.{Equal, Greater, slice_cmp, exact_bytes, slice_get_within, Key, entry_row, StoredRow, key_of_row, key_at, IsNextEntry, is_above, is_behind, source_at, Choice}
+use Rattle.silt_merge.proofs.Common.{Source, is_some, lt-ltb, arith, rules, match_ordering, nat_cmp, not_below_itself, IsFirstWaiting, IsOffered, choice_of, lower_choice}
 use Rattle.std.specs.Cmp.Lexicographic.{nat_list_cmp_total}
-use Rattle.silt_sorted_store.proofs.Rising.{not_below_itself}
-use Rattle.silt_merge.specs.Choice.{IsFirstWaiting, IsOffered, choice_of, lower_choice}
 use Rattle.silt_merge.proofs.Deciding.{IsLowest}
 use Rattle.silt_merge.proofs.Newest.{turned}
 
@@ -19,7 +15,7 @@ not_both a b less other = not_below_itself a a refl (nat_list_cmp_total.trans a 
 -- the choice of a row that waits
 offered_row : (waiting : List (Key × Source)) (last : Option Key) (key : Key) (source : Source) (choice : Choice) → IsFirstWaiting waiting (Some (key, source))
     → ((key : List ℕ) (its : Source) → source_at waiting key ≡ Some its → is_above last key ≡ true) → choice.key ≡ key → choice.source ≡ Some source → IsOffered waiting last choice
-offered_row waiting last key source choice is above its_key its_source = search (arith, is.1)
+offered_row waiting last key source choice is above its_key its_source = search arith
 
 -- that of the next entry, which is below each row
 offered_entry : (waiting : List (Key × Source)) (last : Option Key) (next : Key) (choice : Choice) → choice.key ≡ next → choice.source ≡ None → choice.passes ≡ true
@@ -36,9 +32,6 @@ lower_is key source next o is = search arith
 pub offered : (waiting : List (Key × Source)) (last : Option Key) (first : Option (Key × Source)) (next : Option Key) (choice : Choice)
     → IsFirstWaiting waiting first → choice_of first next ≡ Some choice → is_behind last next ≡ false
     → ((key : List ℕ) (its : Source) → source_at waiting key ≡ Some its → is_above last key ≡ true) → IsOffered waiting last choice
-offered waiting last None None choice is chosen ahead above = absurd (cc)
-offered waiting last None (Some next) choice is chosen ahead above = search (arith, offered_entry)
-offered waiting last (Some (key, source)) None choice is chosen ahead above = search (arith, offered_row)
 offered waiting last (Some (key, source)) (Some next) choice is chosen ahead above =
     let it : lower_choice key source next ≡ choice = cc in
     let go : (o : Ordering) → slice_cmp nat_cmp key.0 next.0 ≡ o → IsOffered waiting last (lower_choice key source next) = elim [
@@ -48,10 +41,7 @@ offered waiting last (Some (key, source)) (Some next) choice is chosen ahead abo
           refl ahead (λ other its waits less. is.1 other its waits (nat_list_cmp_total.trans other next.0 key.0 less (turned key.0 next.0 o))))
     ] in
     rw it at (go (slice_cmp nat_cmp key.0 next.0) refl)
-
--- an entry is skipped only if there is one
-pub passes_next : (first : Option (Key × Source)) (next : Option Key) (choice : Choice) → choice_of first next ≡ Some choice → choice.passes ≡ true → is_some next ≡ true
-passes_next first next choice chosen passes = search (arith, chosen)
+offered waiting last first next choice is chosen ahead above = search (rules, arith)
 
 -- ---- on an honest disk
 

@@ -1,22 +1,13 @@
 -- The bytes that a merge hashes of what it reads, and what they say of the digests of the stores.
-use Rattle.std.proofs.lemmas.Bool.{cases_Bool, cases_eq, lt-ltb}
-use Rattle.silt_merge.proofs.Common.{◌≡◌, ℕ, ◌+◌, ◌*◌, ◌<◌, ◌≤◌, eqb, nat_lt, Bool, true, false, List, [], ◌++◌, length, get_or, take, Option, inl, inr, refl, sym, ap, ◌∙◌, arith, Some}
-use Rattle.silt_merge.proofs.Common.{None, and_parts, cases_lt, cond-true, cond-false, eq-eqb, eqb-true, le-ltb, take_more, slice_get_within, Sha1, Content, Shape, entry_len, row_len}
-use Rattle.silt_merge.proofs.Common.{StoredRow, entries_bytes, entry_row, rows_bytes, Key, slot_row, HashState, all_before, SortedState, BuilderState, MatchesDigests, AreEntries, AreSlots}
-use Rattle.silt_merge.proofs.Common.{entries_in, regions_of, Place, IsHeldMerge, MergeState, ends_entries, finding, ends_store, hashed_after, input_after, passed_after, slot_after, Source}
-use Rattle.silt_merge.proofs.Common.{HasTaken, Taken}
-use Rattle.std.proofs.Common.{if◌then◌else◌, length-append, All}
+use Rattle.silt_merge.proofs.Common.{cases_Bool, cases_eq, lt-ltb, ◌≡◌, ℕ, ◌+◌, ◌*◌, ◌<◌, ◌≤◌, eqb, nat_lt, Bool, true, false, List, [], ◌++◌, length, get_or, take, Option, inl, inr, refl, sym}
+use Rattle.silt_merge.proofs.Common.{ap, ◌∙◌, arith, Some, None, and_parts, cases_lt, cond-true, cond-false, eq-eqb, eqb-true, le-ltb, take_more, slice_get_within, Sha1, Content, Shape, entry_len}
+use Rattle.silt_merge.proofs.Common.{row_len, StoredRow, entries_bytes, entry_row, rows_bytes, Key, slot_row, HashState, all_before, SortedState, BuilderState, MatchesDigests, AreEntries}
+use Rattle.silt_merge.proofs.Common.{AreSlots, entries_in, regions_of, Place, IsHeldMerge, MergeState, ends_entries, finding, ends_store, hashed_after, input_after, passed_after, slot_after}
+use Rattle.silt_merge.proofs.Common.{Source, HasTaken, Taken, length-append, All, take_all, get_or_from_slice_get, sha1, slots_len, hash_rows, rows_before, before_more, bytes_more}
+use Rattle.silt_merge.proofs.Common.{entry_count, HasCompared, MayTake}
+use Rattle.std.proofs.Common.{if◌then◌else◌}
 use Rattle.std.proofs.Math.Nat.{add-mul}
-use Rattle.std.proofs.lemmas.List.{take_all}
-use Rattle.std.proofs.lemmas.Option.{get_or_from_slice_get}
-use Rattle.sha1.specs.Sha1.{sha1}
-use Rattle.silt_disk.specs.Layout.{slots_len}
 use Rattle.silt_frame.proofs.RowBytes.{row_bytes_of, rows_bytes_more}
-use Rattle.silt_hash_store.specs.Slots.{hash_rows, rows_before}
-use Rattle.silt_hash_store.proofs.Slotting.{before_more}
-use Rattle.silt_sorted_store.proofs.Digested.{bytes_more}
-use Rattle.silt_sorted_store.proofs.Entries.{entry_count}
-use Rattle.silt_merge.specs.Comparing.{HasCompared, MayTake}
 use Rattle.silt_merge.proofs.Pieces.{first_entry, first_slot}
 use Rattle.silt_merge.proofs.Reading.{store_at}
 

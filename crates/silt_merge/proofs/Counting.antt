@@ -1,18 +1,12 @@
 -- There are as many entries as keys with a value.
-use Rattle.silt_merge.proofs.Common.{◌≡◌, ℕ, Bool, true, false, cond, List, [], ◌∷◌, filter, length, map, Some, option_map, refl, sym, subst, ap, ◌∙◌, bytes_eq, slice_cmp, cond-true}
-use Rattle.silt_merge.proofs.Common.{length-map, is_eq-slice_cmp, StoredRow, is_put_row, newest_rows}
-use Rattle.std.proofs.Common.{T, option_and_then, arith}
-use Rattle.std.specs.Ordering.{eq_by_cmp, is_lt, nat_cmp}
+use Rattle.silt_merge.proofs.Common.{◌≡◌, ℕ, true, List, [], ◌∷◌, filter, length, map, option_map, refl, sym, subst, ap, ◌∙◌, bytes_eq, slice_cmp, length-map, is_eq-slice_cmp, StoredRow}
+use Rattle.silt_merge.proofs.Common.{is_put_row, newest_rows, T, option_and_then, arith, eq_by_cmp, is_lt, nat_cmp, and_from, value_given, map_of_rows, newest_law, MergedCountLaw}
 use Rattle.std.specs.FinMap.{entries-from_sorted, from_sorted, get-from_sorted, len, len-entries, same_map, slice_cmp-IsAntisymmetric, nat_cmp-IsAntisymmetric}
-use Rattle.std.specs.FinMap.Entries.{below_all, find, is_sorted}
-use Rattle.std.proofs.lemmas.Bool.{and_from}
+use Rattle.std.specs.FinMap.Entries.{find, below_all, is_sorted}
 use Rattle.std.proofs.lemmas.Cmp.{eq_by_cmp_equiv, nat_list_cmp_total}
 use Rattle.silt_event.specs.Commands.{Map}
-use Rattle.silt_event.specs.Rows.{value_given, map_of_rows}
-use Rattle.silt_event.proofs.Rows.{newest_law}
-use Rattle.silt_merge.specs.Laws.{MergedCountLaw}
 use Rattle.silt_merge.specs.Rows.{merged_rows}
-use Rattle.silt_merge.proofs.Newest.{Above, Rises, merged_map, newest_rising, no_put_first, put_first, rises_newest, rises_puts, row_with}
+use Rattle.silt_merge.proofs.Newest.{Above, Rises, merged_map, newest_rising, rises_newest, rises_puts, row_with}
 
 -- the keys of rows with their values
 abbrev pairs : List StoredRow → List (List ℕ × List ℕ)
@@ -33,17 +27,13 @@ find_pairs [] key = refl
 find_pairs (row ∷ rows) key =
     let further = find_pairs rows key in
     let same : eq_by_cmp (slice_cmp nat_cmp) key row.key ≡ bytes_eq row.key key = (eq_by_cmp_equiv nat_list_cmp_total).symm key row.key ∙ is_eq-slice_cmp row.key key in
-    let go : (b : Bool) → cond b (Some row.value) (find (slice_cmp nat_cmp) key (pairs rows)) ≡ option_map (λ (r : StoredRow). r.value) (cond b (Some row) (row_with key rows)) = elim [
-      | true ↦ refl
-      | false ↦ further
-    ] in
-    cc (go (bytes_eq row.key key))
+    search arith
 
 -- which is what a put gives
 put_values : (rows : List StoredRow) (key : List ℕ) → option_and_then value_given (row_with key (filter is_put_row rows)) ≡ option_map
     (λ (r : StoredRow). r.value) (row_with key (filter is_put_row rows))
 put_values [] key = refl
-put_values (row ∷ rows) key = search (arith, put_values rows key, cond-true, put_first, no_put_first)
+put_values (row ∷ rows) key = search (arith, put_values rows key)
 
 -- the map of the newest rows that are puts has an entry for each
 pub merged_count : MergedCountLaw

@@ -1,16 +1,9 @@
 -- Which key is decided next, by what row, and what is due after it.
-use Rattle.silt_merge.proofs.Common.{◌≡◌, ◌≢◌, ℕ, zero, suc, ◌+◌, ◌<◌, ◌≤◌, ◌⊎◌, nat_lt, Bool, true, false, ◌||◌, cond, List, [], ◌∷◌, ◌++◌, filter, length, take, slice_get, Option, Some}
-use Rattle.silt_merge.proofs.Common.{None, inl, inr, refl, sym, ap, ◌∙◌, arith, bytes_eq, Less, option_or, slice_cmp, cases_Bool, cases_lt, cond-true, cond-false, le-ltb, ltb-false}
-use Rattle.silt_merge.proofs.Common.{take_more, slice_get_within, newest_row, StoredRow, is_put_row, key_of_row, key_at, has_row_with, newest_rows}
-use Rattle.std.proofs.Common.{nat_cmp}
-use Rattle.std.specs.Option.{is_some}
+use Rattle.silt_merge.proofs.Common.{◌≡◌, ◌≢◌, ℕ, zero, suc, ◌+◌, ◌<◌, ◌≤◌, ◌⊎◌, nat_lt, Bool, true, false, ◌||◌, cond, List, [], ◌∷◌, ◌++◌, filter, length, take, slice_get, Option, Some, None}
+use Rattle.silt_merge.proofs.Common.{inl, inr, refl, sym, ap, ◌∙◌, arith, bytes_eq, Less, option_or, slice_cmp, cases_Bool, cases_lt, cond-true, cond-false, le-ltb, ltb-false, take_more}
+use Rattle.silt_merge.proofs.Common.{slice_get_within, newest_row, StoredRow, is_put_row, key_of_row, key_at, has_row_with, newest_rows, nat_cmp, rules, is_some, cases_eq, cases_order, lt-ltb}
+use Rattle.silt_merge.proofs.Common.{length-take-le, take-append-le, take_all, filter-append, list_any-append, get_or_from_slice_get, row_inside}
 use Rattle.std.specs.Cmp.Lexicographic.{nat_list_cmp_total}
-use Rattle.std.proofs.lemmas.Bool.{cases_eq, cases_order, lt-ltb, or_parts}
-use Rattle.std.proofs.lemmas.List.{length-take-le, take-append-le, take_all}
-use Rattle.std.proofs.lemmas.List.Elements.{filter-append}
-use Rattle.std.proofs.lemmas.List.Folds.{list_any-append}
-use Rattle.std.proofs.lemmas.Option.{get_or_from_slice_get}
-use Rattle.silt_sorted_store.proofs.Entries.{row_inside}
 use Rattle.silt_merge.proofs.Newest.{Above, Rises, find_newest, key_below, key_is, key_itself, newest_append, newest_rising, rises_at, rises_newest, row_with}
 
 -- ---- rows that rise, by places
@@ -34,8 +27,8 @@ above_found key (first ∷ rest) asked row above is =
 -- a row at a place is that of its key
 pub find_at : (rows : List StoredRow) (place : ℕ) (row : StoredRow) → Rises rows → slice_get rows place ≡ Some row → row_with row.key rows ≡ Some row
 find_at [] place row rises there = absurd (cc)
-find_at (first ∷ rest) zero row rises there = search (arith, cond-true, key_itself)
-find_at (first ∷ rest) (suc place) row rises there = search (arith, find_at rest place row rises.1 there, cond-false, key_below, above_there)
+find_at (first ∷ rest) zero row rises there = search (arith, key_itself)
+find_at (first ∷ rest) (suc place) row rises there = search (arith, find_at rest place row rises.1 there, key_below, above_there)
 
 -- and no row before it has its key
 pub none_before : (rows : List StoredRow) (place : ℕ) (row : StoredRow) → Rises rows → slice_get rows place ≡ Some row → has_row_with row.key (take place rows) ≡ false
@@ -50,9 +43,7 @@ place_found key (first ∷ rest) row is =
     let further = place_found key rest row in
     elim (cases_Bool (bytes_eq first.key key)) [
       | inl same ↦
-          let here : Some first ≡ Some row = sym (cond-true _ _ _ same) ∙ is in
-          let it : first ≡ row = cc in
-          (0, here, sym (ap (λ (r : StoredRow). r.key) it) ∙ key_is _ key same)
+          search (arith, key_is)
       | inr other ↦ let later = further (sym (cond-false _ _ _ other) ∙ is) in (suc later.0, later.1, later.2)
     ]
 
@@ -64,9 +55,8 @@ found_where_has key (first ∷ rest) = search (arith, found_where_has key rest)
 -- a key that is not among the first rows is that of the next one, or above it
 pub next_at : (rows : List StoredRow) (count : ℕ) (key : List ℕ) (found : StoredRow) → Rises rows → row_with key rows ≡ Some found → has_row_with key (take count rows) ≡ false
     → (row : StoredRow) × (slice_get rows count ≡ Some row) × ((row.key ≡ key) ⊎ (slice_cmp nat_cmp row.key key ≡ Less))
-next_at [] count key found rises is none = absurd (cc)
-next_at (first ∷ rest) zero key found rises is none = search (arith, cases_Bool, key_is, above_found, cond-false)
-next_at (first ∷ rest) (suc count) key found rises is none = search (arith, next_at rest count key found rises.1, or_parts, cond-false)
+next_at (first ∷ rest) (suc count) key found rises is none = search (arith, next_at rest count key found rises.1)
+next_at rows count key found rises is none = search (rules, arith, above_found)
 
 -- the first rows and one more
 take_one : (rows : List StoredRow) (count : ℕ) (row : StoredRow) → slice_get rows count ≡ Some row → take (count + 1) rows ≡ take count rows ++ row ∷ []
@@ -82,14 +72,13 @@ has_more rows count row key there =
 -- a key of the first rows is below that of the next one
 pub before_at : (rows : List StoredRow) (count : ℕ) (key : List ℕ) (row : StoredRow) → Rises rows → has_row_with key (take count rows) ≡ true
     → slice_get rows count ≡ Some row → slice_cmp nat_cmp key row.key ≡ Less
-before_at [] count key row rises has there = absurd (cc)
-before_at (first ∷ rest) zero key row rises has there = absurd (cc)
 before_at (first ∷ rest) (suc count) key row rises has there =
     let further = before_at rest count key row rises.1 in
     elim (cases_Bool (bytes_eq first.key key)) [
       | inl same ↦ ap (λ k. slice_cmp nat_cmp k row.key) (sym (key_is _ key same)) ∙ above_there _ rest count row rises.0 there
       | inr other ↦ further (sym (ap (λ b. b || has_row_with key (take count rest)) other) ∙ has) there
     ]
+before_at rows count key row rises has there = absurd (cc)
 
 -- ---- choices
 
@@ -216,8 +205,7 @@ module _ (entries hashed : List StoredRow) (decided passed : ℕ) (waits : List 
   next_enters row entry there none at same =
       let rising = rises_newest (entries ++ hashed) in
       let lacks : newest_row hashed row.key ≡ None = sym (so_far.waiting row.key ∙ cond-false _ _ _ (none_before all decided row rising there)) ∙ none in
-      let one : Some row ≡ Some entry = sym (find_at all decided row rising there) ∙ newest_of row.key
-      ∙ ap (λ o. option_or o (newest_row entries row.key)) lacks ∙ newest_entry passed entry row.key at same in
+      let one : Some row ≡ Some entry = cc (find_at all decided row rising there, newest_of row.key, newest_entry passed entry row.key at same) in
       cc
 
   -- ---- with one key more
@@ -225,8 +213,7 @@ module _ (entries hashed : List StoredRow) (decided passed : ℕ) (waits : List 
   -- the waiting rows, once those of the key are dropped
   waits_after : (row : StoredRow) (after : List ℕ → Option StoredRow) → slice_get all decided ≡ Some row → ((key : List ℕ) → after key ≡ cond (bytes_eq row.key key) None (waits key))
       → (key : List ℕ) → after key ≡ cond (has_row_with key (take (decided + 1) all)) None (newest_row hashed key)
-  waits_after row after there gone key =
-      cc (gone key, so_far.waiting key, cond_twice (has_row_with key (take decided all)) (bytes_eq row.key key) (newest_row hashed key), has_more all decided row key there)
+  waits_after row after there gone key = search (arith, cond_twice, has_more)
 
   -- an entry's key
   passes_at : (row : StoredRow) (place : ℕ) → slice_get all decided ≡ Some row → place < length entries
@@ -263,10 +250,11 @@ module _ (entries hashed : List StoredRow) (decided passed : ℕ) (waits : List 
           ∙ key_below row.key (key_at entries place) (ap (λ p. slice_cmp nat_cmp row.key (key_at entries p)) same ∙ above (omega arith)) ∙ sym (le-ltb place passed (omega arith))
       | inr (inl lower) ↦ ap (λ b. b || bytes_eq row.key (key_at entries place)) (lt-ltb place passed lower) ∙ sym (lt-ltb place passed lower)
       | inr (inr higher) ↦
-          ap (λ b. b || bytes_eq row.key (key_at entries place)) (le-ltb place passed (omega arith))
-          ∙ key_below row.key (key_at entries place)
-          (nat_list_cmp_total.trans row.key (key_at entries passed) (key_at entries place) (above (omega arith)) (rises_at entries rises passed place higher inside))
-          ∙ sym (le-ltb place passed (omega arith))
+          cc (
+            le-ltb place passed (omega arith),
+            key_below row.key (key_at entries place) (nat_list_cmp_total.trans row.key (key_at entries passed) (key_at entries place) (above (omega arith)) (rises_at
+                entries rises passed place higher inside)),
+          )
     ];
   }
 
@@ -284,7 +272,7 @@ module _ (entries hashed : List StoredRow) (decided passed : ℕ) (waits : List 
           let rising = rises_newest (entries ++ hashed) in
           let apart = none_before all decided row rising there in
           let lacks : newest_row hashed row.key ≡ None = sym (so_far.waiting row.key ∙ cond-false _ _ _ apart) ∙ none row.key in
-          let found : newest_row entries row.key ≡ Some row = sym (newest_of row.key ∙ ap (λ o. option_or o (newest_row entries row.key)) lacks) ∙ find_at all decided row rising there in
+          let found : newest_row entries row.key ≡ Some row = cc (newest_of row.key, find_at all decided row rising there) in
           let at = place_found row.key entries row (sym (newest_rising entries rises row.key) ∙ found) in
           let inside = slice_get_within entries at.0 row at.1 in
           let passed_over : nat_lt at.0 passed ≡ true = lt-ltb at.0 passed (omega arith) in
@@ -302,8 +290,7 @@ module _ (entries hashed : List StoredRow) (decided passed : ℕ) (waits : List 
           let row = row_inside _ passed below in
           let key : List ℕ = key_at entries passed in
           let here = newest_entry passed row.0 key row.1 (sym (key_of_row entries passed row.0 row.1)) in
-          let some = or_some _ row.0 in
-          let has : has_row_with key all ≡ true = found_where_has key all ∙ ap is_some (newest_of key ∙ ap (option_or (newest_row hashed key)) here ∙ some.1) in
+          let has : has_row_with key all ≡ true = cc (found_where_has key all, newest_of key, (or_some _ row.0).1) in
           let lacks : has_row_with key all ≡ false = cc (take_all decided all most, so_far.passing passed below, le-ltb passed passed (omega arith)) in
           absurd (cc)
     ],
@@ -319,7 +306,7 @@ module _ (entries hashed : List StoredRow) (decided passed : ℕ) (waits : List 
 
 -- of a beginning and more, a beginning
 pub take_both : (most : ℕ) (xs ys : List StoredRow) → take most (take most xs ++ ys) ≡ take most (xs ++ ys)
-take_both most xs ys = search (arith, cases_lt, take_all, length-take-le, take-append-le)
+take_both most xs ys = search (arith, take_all, length-take-le, take-append-le)
 
 -- one row more that is due, or not
 pub due_more : (rows : List StoredRow) (count most : ℕ) (row : StoredRow) (before due after : List StoredRow) → slice_get rows count ≡ Some row

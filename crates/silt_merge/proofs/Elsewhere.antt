@@ -1,23 +1,15 @@
 -- What a change on another part of the disk leaves of a merge.
-use Rattle.silt_merge.proofs.Common.{◌≡◌, ◌≢◌, ℕ, suc, ◌+◌, ◌-◌, ◌*◌, ◌<◌, ◌≤◌, ◌⊎◌, IsTrue, List, [], ◌∷◌, ◌++◌, filter, length, map, take, get_or, Option, Some, None, option_map, inl, inr}
-use Rattle.silt_merge.proofs.Common.{refl, sym, ap, ◌∙◌, arith, cases_lt, length-map, Shape, entry_len, sorted_at, kind_byte, slot_row, hash_part, HashState, all_before, StoredRow}
-use Rattle.silt_merge.proofs.Common.{is_put_row, keys_of, sorted_rows, SortedState, AreSound, source_row, entries_in, has_row_with, newest_rows, regions_of, IsHeldMerge, MergeState}
-use Rattle.silt_merge.proofs.Common.{source_at, Source, IsBuildingOf}
-use Rattle.std.specs.List.{All}
-use Rattle.std.proofs.lemmas.Bool.{cases_order}
-use Rattle.std.proofs.Math.Seq.{drop-append-add}
-use Rattle.std.proofs.lemmas.List.{get_or-map, length-append, take-map}
-use Rattle.silt_disk.specs.Disk.{LiesOutside, Torn}
-use Rattle.silt_disk.specs.Layout.{device_size, entries_len, hash_at, slots_len}
-use Rattle.silt_disk.proofs.Regions.{regions_apart}
+use Rattle.silt_merge.proofs.Common.{◌≡◌, ◌≢◌, ℕ, suc, ◌+◌, ◌-◌, ◌*◌, ◌<◌, ◌≤◌, ◌⊎◌, IsTrue, List, [], ◌∷◌, ◌++◌, filter, length, map, take, get_or, Option, Some, None, option_map, refl, sym, ap}
+use Rattle.silt_merge.proofs.Common.{◌∙◌, arith, length-map, Shape, entry_len, sorted_at, kind_byte, slot_row, hash_part, HashState, all_before, StoredRow, is_put_row, keys_of, sorted_rows}
+use Rattle.silt_merge.proofs.Common.{SortedState, AreSound, source_row, entries_in, has_row_with, newest_rows, regions_of, IsHeldMerge, MergeState, source_at, Source, IsBuildingOf, All}
+use Rattle.silt_merge.proofs.Common.{drop-append-add, get_or-map, length-append, take-map, LiesOutside, Torn, device_size, entries_len, hash_at, slots_len, regions_apart, IsHeldSorted}
+use Rattle.silt_merge.proofs.Common.{MergedElsewhereLaw, OldestStoresLaw, IsGatheredIn, IsMergedIn, decided_rows, key_count}
 use Rattle.silt_hash_store.proofs.Elsewhere.{slot_outside, slots_inside}
 use Rattle.silt_hash_store.specs.Slots.{rows_before}
-use Rattle.silt_sorted_store.specs.State.{IsHeldSorted}
 use Rattle.silt_log.proofs.Bodies.{map_range_same}
-use Rattle.silt_merge.specs.Laws.{MergedElsewhereLaw, OldestStoresLaw}
 use Rattle.silt_sorted_store.proofs.Elsewhere.{entries_inside, entries_outside}
-use Rattle.silt_merge.specs.Merging.{IsGatheredIn, IsMergedIn, decided_rows, gathered_rows}
-use Rattle.silt_merge.specs.Rows.{key_count, sources}
+use Rattle.silt_merge.specs.Merging.{gathered_rows}
+use Rattle.silt_merge.specs.Rows.{sources}
 use Rattle.silt_merge.proofs.Pieces.{slots_same}
 
 -- there are as many regions as stores
@@ -129,9 +121,7 @@ same_outside stores sorted old new at count fits there held behind outside torn 
       let region : ℕ = (get_or stores store blank).region in
       let its : get_or (regions_of stores) store 0 ≡ region = region_of stores store blank within in
       let ends = slots_inside sorted.shape region (there store blank within) in
-      ap (λ r. slot_row sorted.shape r new slot) its
-      ∙ slot_outside sorted.shape region slot at count old new (omega (arith, ends)) inside (outside store blank within) torn
-      ∙ ap (λ r. slot_row sorted.shape r old slot) (sym its);
+      cc (slot_outside sorted.shape region slot at count old new (omega (arith, ends)) inside (outside store blank within) torn);
   entries =
       let ends = entries_inside sorted.shape sorted.region held.region in
       entries_outside sorted.shape sorted.region sorted.count at count old new (omega (arith, ends)) held.room behind torn;
@@ -144,13 +134,7 @@ pub same_beside : (stores : List HashState) (sorted : SortedState) (region : ℕ
 same_beside stores sorted region old new fits there held apart below torn =
     let s : Shape = sorted.shape in
     let regions = regions_apart s in
-    same_outside stores sorted old new _ _ fits there held (elim (cases_order sorted.region region) [
-      | inl same ↦ absurd (apart same)
-      | inr (inl lower) ↦ inr (regions.sorted sorted.region region lower)
-      | inr (inr higher) ↦ inl (regions.sorted region sorted.region higher)
-    ]) (λ store blank within. inr (
-    omega (arith, regions.hashes (get_or stores store blank).region s.hashes (there store blank within), regions.hash_end region)
-    )) torn
+    same_outside stores sorted old new _ _ fits there held (search arith) (search arith) torn
 
 -- a source of a merge, as the number of a region and a slot
 pub source_inside : (stores : List HashState) (sorted : SortedState) (merge : MergeState) → IsHeldMerge merge → sorted.shape ≡ merge.shape → length stores ≡ merge.stores
@@ -159,7 +143,7 @@ source_inside stores sorted merge held shape counted key source is = search (ari
 
 -- the next store of a merge
 pub store_next : (stores : List HashState) (merge : MergeState) → IsHeldMerge merge → length stores ≡ merge.stores → (merge.store < length (regions_of stores)) ⊎ (merge.slot ≡ 0)
-store_next stores merge held counted = search (arith, cases_lt, regions_count)
+store_next stores merge held counted = search (arith, regions_count)
 
 -- a merge has gathered and written what it had
 pub merged_elsewhere : MergedElsewhereLaw

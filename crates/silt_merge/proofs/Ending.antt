@@ -1,25 +1,15 @@
 -- What the decision of a key leaves, and what a merge that is done has written.
-use Rattle.std.proofs.lemmas.Bool.{cases_Bool, and_from, le-leb, leb-true, ne_eqb}
-use Rattle.silt_merge.proofs.Common.{◌≡◌, ◌≢◌, ℕ, ◌+◌, ◌*◌, ◌<◌, ◌≤◌, ◌&&◌, nat_lt, Bool, true, false, ◌||◌, cond, IsTrue, List, [], ◌∷◌, ◌++◌, filter, length, take, get_or, slice_get}
-use Rattle.silt_merge.proofs.Common.{Option, Some, None, option_map, inl, inr, refl, sym, subst, ap, ◌∙◌, arith, bytes_eq, Ordering, Less, Equal, Greater, and_parts, cases_lt, cond-true}
-use Rattle.silt_merge.proofs.Common.{cond-false, eq-eqb, eqb-true, ltb-false, ltb-true, is_eq-slice_cmp, length-map, slice_get_within, Content, size, Shape, entry_len, sorted_at, kind_byte}
-use Rattle.silt_merge.proofs.Common.{Place, Key, HashState, exact_bytes, slice_cmp, sorted_rows, SortedState, entries_of, StoredRow, entries_bytes, entry_row, is_put_row, keys_of}
-use Rattle.silt_merge.proofs.Common.{IsNextEntry, ReadsRow, due_rows, is_written, AreSound, HasMerged, source_row, AreEntries, AreSlots, parts_after, entries_in, has_row_with}
-use Rattle.silt_merge.proofs.Common.{rows_of_hashes, newest_rows, regions_of, IsHeldMerge, MergeState, hashed_after, is_behind, passed_after, source_at, written_after, BuilderState}
-use Rattle.silt_merge.proofs.Common.{IsBuildingOf, is_above, Choice, Source, key_of_row, key_at, Holds, Sha1, HasTaken, Taken}
-use Rattle.std.proofs.Common.{◌==◌, nat_le, not, IsSomeAnd, is_some, is_lt, nat_cmp}
-use Rattle.std.proofs.lemmas.List.{take_all}
-use Rattle.silt_disk.specs.Disk.{ChangesWithin}
-use Rattle.silt_disk.specs.Layout.{device_size}
-use Rattle.silt_disk.proofs.Regions.{next_region}
-use Rattle.silt_frame.specs.Frame.{is_put}
+use Rattle.silt_merge.proofs.Common.{kind_byte, is_put, eq-eqb, cond-false, cases_Bool, leb-true, ◌≡◌, ◌≢◌, ℕ, ◌+◌, ◌*◌, ◌<◌, ◌≤◌, ◌&&◌, nat_lt, Bool, true, false, ◌||◌, cond, IsTrue, List, []}
+use Rattle.silt_merge.proofs.Common.{◌∷◌, ◌++◌, filter, length, take, get_or, slice_get, Option, Some, None, option_map, inl, inr, refl, sym, subst, ap, ◌∙◌, arith, bytes_eq, Ordering, Less}
+use Rattle.silt_merge.proofs.Common.{Equal, Greater, and_parts, cases_lt, cond-true, eqb-true, ltb-false, ltb-true, is_eq-slice_cmp, length-map, slice_get_within, Content, size, entry_len}
+use Rattle.silt_merge.proofs.Common.{sorted_at, Place, Key, HashState, exact_bytes, slice_cmp, sorted_rows, SortedState, entries_of, StoredRow, entries_bytes, entry_row, is_put_row, keys_of}
+use Rattle.silt_merge.proofs.Common.{IsNextEntry, ReadsRow, due_rows, is_written, AreSound, HasMerged, source_row, AreEntries, AreSlots, parts_after, entries_in, has_row_with, rows_of_hashes}
+use Rattle.silt_merge.proofs.Common.{newest_rows, regions_of, IsHeldMerge, MergeState, hashed_after, is_behind, passed_after, source_at, written_after, BuilderState, IsBuildingOf, is_above}
+use Rattle.silt_merge.proofs.Common.{Choice, Source, key_of_row, key_at, Holds, Sha1, HasTaken, Taken, ◌==◌, nat_le, not, IsSomeAnd, is_some, is_lt, nat_cmp, take_all, ChangesWithin, device_size}
+use Rattle.silt_merge.proofs.Common.{next_region, IsHeldSorted, IsFirstWaiting, IsOffered, choice_of, choice_puts, IsGatheredIn, IsMergeOf, Seals, key_count, IsInside, is_done, keys_after}
+use Rattle.silt_merge.proofs.Common.{steps_for, steps_of, IsTrieOf, entry_count, lower_below}
 use Rattle.silt_sorted_store.specs.Findings.{sorted_findings}
-use Rattle.silt_sorted_store.specs.State.{IsHeldSorted}
-use Rattle.silt_merge.specs.Choice.{IsFirstWaiting, IsOffered, choice_of, choice_puts}
-use Rattle.silt_merge.specs.Merging.{IsGatheredIn, IsMergeOf, Seals}
-use Rattle.silt_merge.specs.Rows.{key_count, merged_rows, sources}
-use Rattle.silt_merge.specs.State.{IsInside, is_done, keys_after, steps_for, steps_of}
-use Rattle.silt_trie.specs.Building.{IsTrieOf}
+use Rattle.silt_merge.specs.Rows.{merged_rows, sources}
 use Rattle.silt_trie.specs.Marks.{MarkedCode}
 use Rattle.silt_merge.proofs.Choosing.{IsChosen, chosen}
 use Rattle.silt_merge.proofs.Deciding.{IsDecided, all_decided, cond_some, decided_with, decided_without, due_more, has_more, lowest_next, next_above, next_enters, next_waits, none_waits}
@@ -29,8 +19,6 @@ use Rattle.silt_merge.proofs.Comparing.{entry_bytes}
 use Rattle.silt_merge.proofs.Keys.{above_index, bytes_written, count_written, keys_written, puts_row, rows_due}
 use Rattle.silt_merge.proofs.Making.{grown}
 use Rattle.silt_merge.proofs.Newest.{Rises, key_itself, merged_law, rises_from, rises_newest, turned}
-use Rattle.silt_sorted_store.proofs.Entries.{entry_count}
-use Rattle.silt_sorted_store.proofs.Rising.{lower_below}
 
 -- entries in which nothing is found rise
 rises_of : (rows : List StoredRow) → sorted_findings rows ≡ [] → Rises rows
@@ -49,14 +37,19 @@ module _ (image : List ℕ) (stores : List HashState) (sorted : SortedState) whe
   abbrev pub waits_in : List (Key × Source) → List ℕ → Option StoredRow
   waits_in waiting key = option_map (source_row sorted.shape image (regions_of stores)) (source_at waiting key)
 
+  -- without those of a key
+  waits_gone : (waiting after : List (Key × Source)) (own key_is : List ℕ) → key_is ≡ own → ((key : List ℕ) → source_at after key ≡ cond (bytes_eq own key) None (source_at waiting key))
+      → (key : List ℕ) → waits_in after key ≡ cond (bytes_eq key_is key) None (waits_in waiting key)
+  waits_gone waiting after own key_is same gone key = search arith
+
   -- once all slots are gathered, the rows that wait are those not decided
-  pub decided_of : (merge : MergeState) → length (regions_of stores) ≤ merge.store → merge.slot ≡ 0 → IsGatheredIn image stores sorted merge
+  decided_of : (merge : MergeState) → length (regions_of stores) ≤ merge.store → merge.slot ≡ 0 → IsGatheredIn image stores sorted merge
       → IsDecided entries hashed merge.decided merge.passed (waits_in merge.waiting)
   unfolding sources
   decided_of merge past none is = search (arith, all_gathered, entry_count)
 
   -- and the other way round
-  pub gathered_of : (merge : MergeState) → length (regions_of stores) ≤ merge.store → merge.slot ≡ 0 → merge.decided ≤ length (newest_rows (entries ++ hashed))
+  gathered_of : (merge : MergeState) → length (regions_of stores) ≤ merge.store → merge.slot ≡ 0 → merge.decided ≤ length (newest_rows (entries ++ hashed))
       → ((key : Key) → merge.last ≡ Some key → has_row_with key.0 (take merge.decided (newest_rows (entries ++ hashed))) ≡ true)
       → AreEntries entries merge.passed merge.ahead → HasTaken merge.input (entries_bytes (take merge.passed entries))
       → IsDecided entries hashed merge.decided merge.passed (waits_in merge.waiting) → IsGatheredIn image stores sorted merge
@@ -71,43 +64,69 @@ due_row : (row shown : StoredRow) (source : Source) (key bytes : List ℕ) → r
     → due_rows (is_put source.kind) bytes ≡ filter is_put_row (row ∷ [])
 due_row row shown source key bytes is same read = search (arith, cond-true, eq-eqb, cond-false)
 
-module _ (image : List ℕ) (stores : List HashState) (sorted : SortedState) (merge : MergeState) (choice : Choice) (bytes : List ℕ) (rises : Rises (entries_in image sorted))
-    (so_far : IsDecided (entries_in image sorted) (rows_of_hashes sorted.shape image (regions_of stores)) merge.decided merge.passed (waits_in image stores sorted merge.waiting))
-    (is : IsChosen (entries_in image sorted) merge.passed bytes (source_row sorted.shape image (regions_of stores)) merge.waiting choice) where
-  abbrev old_entries : List StoredRow
-  old_entries = entries_in image sorted
+-- whose entry is written, if it is a put
+due_of : (image : List ℕ) (stores : List HashState) (sorted : SortedState) (merge : MergeState) (choice : Choice) (bytes after : List ℕ) (row : StoredRow) → Rises (entries_in image sorted)
+    → IsDecided (entries_in image sorted) (rows_of_hashes sorted.shape image (regions_of stores)) merge.decided merge.passed (waits_in image stores sorted merge.waiting)
+    → IsChosen (entries_in image sorted) merge.passed bytes (source_row sorted.shape image (regions_of stores)) merge.waiting choice
+    → slice_get (newest_rows (entries_in image sorted ++ rows_of_hashes sorted.shape image (regions_of stores))) merge.decided ≡ Some row → row.key ≡ choice.key.0
+    → ReadsRow sorted.shape image (regions_of stores) choice.key.0 choice.source bytes after → due_rows (choice_puts choice.source) after ≡ filter is_put_row (row ∷ [])
+due_of image stores sorted merge choice bytes after row rises so_far is there same read = search (arith, key_of_row, next_enters, next_waits, due_row)
 
-  abbrev old_hashed : List StoredRow
-  old_hashed = rows_of_hashes sorted.shape image (regions_of stores)
+-- a merge on an honest disk that has gathered all slots
+module _ (content : Content) (stores : List HashState) (sorted : SortedState) (merge : MergeState) (held : IsHeldMerge merge) (all : merge.store ≡ merge.stores)
+    (is : HasMerged content stores sorted merge) (honest : IsTrue content.honest) (sound : AreSound content.shown stores sorted) where
+  abbrev image : List ℕ
+  image = content.shown
 
   abbrev all_rows : List StoredRow
-  all_rows = newest_rows (old_entries ++ old_hashed)
+  all_rows = newest_rows (entries_in image sorted ++ rows_of_hashes sorted.shape image (regions_of stores))
 
-  -- the key is that of the next newest row
-  pub decides : (row : StoredRow) × (slice_get all_rows merge.decided ≡ Some row) × (row.key ≡ choice.key.0)
-  decides = lowest_next _ _ _ _ (waits_in image stores sorted merge.waiting) rises so_far _ is.lowest
+  rises : Rises (entries_in image sorted)
+  rises = rises_of _ sound.entries
 
-  -- whose entry is written, if it is a put
-  pub due_is_row : (after : List ℕ) → ReadsRow sorted.shape image (regions_of stores) choice.key.0 choice.source bytes after
-      → due_rows (choice_puts choice.source) after ≡ filter is_put_row (decides.0 ∷ [])
-  due_is_row after read = search (arith, decides, key_of_row, next_enters, next_waits, due_row)
+  -- the rows that wait are those not decided
+  so_decided : IsDecided (entries_in image sorted) (rows_of_hashes sorted.shape image (regions_of stores)) merge.decided merge.passed (waits_in image stores sorted merge.waiting)
+  so_decided = decided_of _ stores sorted merge (omega (arith, regions_count stores, is.counted)) (held.ended all) (is.merged honest sound).gathered
 
-  -- one key more is decided
-  pub decided_step : (after : List (Key × Source)) → ((key : List ℕ) → source_at after key ≡ cond (bytes_eq choice.key.0 key) None (source_at merge.waiting key))
-      → IsDecided old_entries old_hashed (merge.decided + 1) (passed_after choice.passes merge.passed) (waits_in image stores sorted after)
-  decided_step after gone = elim (cases_Bool choice.passes) [
-    | inl passes ↦
-        let it = is.passes passes in
-        rw (← (ap (λ b. passed_after b merge.passed) passes)) at (decided_with old_entries old_hashed merge.decided merge.passed (waits_in image stores sorted merge.waiting)
-        rises so_far decides.0 (waits_in image stores sorted after) decides.1 it.0 (it.1 ∙ sym decides.2) let_go_row)
-    | inr stays ↦
-        rw (← (ap (λ b. passed_after b merge.passed) stays)) at (decided_without old_entries old_hashed merge.decided merge.passed (waits_in image stores sorted merge.waiting) rises so_far
-        decides.0 (waits_in image stores sorted after) decides.1 (λ below. ap (λ k. slice_cmp nat_cmp k (key_at old_entries merge.passed)) decides.2 ∙ is.stays stays below) let_go_row)
-  ]
-    where
-      -- the rows that wait
-      let_go_row : (key : List ℕ) → waits_in image stores sorted after key ≡ cond (bytes_eq decides.0.key key) None (waits_in image stores sorted merge.waiting key)
-      let_go_row key = search (arith, decides)
+  -- a key that is decided
+  module _ (first : Option (Key × Source)) (next : Option Key) (choice : Choice) (bytes row_bytes : List ℕ) (its_first : IsFirstWaiting merge.waiting first)
+      (made : choice_of first next ≡ Some choice) (some : is_some next ≡ nat_lt merge.passed sorted.count)
+      (there : IsTrue content.honest → AreEntries (entries_of content sorted) merge.passed merge.ahead → IsNextEntry (entries_of content sorted) merge.passed bytes next)
+      (read : IsTrue content.honest → ReadsRow merge.shape image (regions_of stores) choice.key.0 choice.source bytes row_bytes) where
+    its_choice : IsChosen (entries_in image sorted) merge.passed bytes (source_row sorted.shape image (regions_of stores)) merge.waiting choice
+    its_choice = chosen _ merge.passed bytes _ merge.waiting first next choice its_first (there honest (is.merged honest sound).gathered.ahead)
+        (some ∙ ap (nat_lt merge.passed) (sym (entry_count sorted.shape sorted.region sorted.count image))) made
+
+    -- it is that of the next newest row
+    decides : (row : StoredRow) × (slice_get all_rows merge.decided ≡ Some row) × (row.key ≡ choice.key.0)
+    decides = lowest_next _ _ _ _ (waits_in image stores sorted merge.waiting) rises so_decided _ its_choice.lowest
+
+    due_is_row : due_rows (choice_puts choice.source) row_bytes ≡ filter is_put_row (decides.0 ∷ [])
+    due_is_row = due_of image stores sorted merge choice bytes row_bytes decides.0 rises so_decided its_choice decides.1 decides.2 (rw is.shape (read honest))
+
+    -- so the next row to decide is a put, if the row that decides is
+    pub next_puts : choice_puts choice.source ≡ true → IsSomeAnd (slice_get (newest_rows (sources content.shown stores sorted)) merge.decided) (λ row. is_put_row row ≡ true)
+    unfolding sources
+    next_puts puts = subst (λ (o : Option StoredRow). IsSomeAnd o (λ row. is_put_row row ≡ true)) (sym decides.1)
+        (puts_row row_bytes decides.0 (sym (ap (λ b. due_rows b row_bytes) puts) ∙ due_is_row))
+
+    -- one key more is decided
+    decided_step : (after : List (Key × Source)) → ((key : List ℕ) → source_at after key ≡ cond (bytes_eq choice.key.0 key) None (source_at merge.waiting key))
+        → IsDecided (entries_in image sorted) (rows_of_hashes sorted.shape image (regions_of stores)) (merge.decided + 1) (passed_after choice.passes merge.passed)
+        (waits_in image stores sorted after)
+    decided_step after gone = elim (cases_Bool choice.passes) [
+      | inl passes ↦
+          let it = its_choice.passes passes in
+          rw (← (ap (λ b. passed_after b merge.passed) passes)) at (decided_with _ _ _ _ (waits_in image stores sorted merge.waiting)
+          rises so_decided _ (waits_in image stores sorted after) decides.1 it.0 (it.1 ∙ sym decides.2) let_go_row)
+      | inr stays ↦
+          rw (← (ap (λ b. passed_after b merge.passed) stays)) at (decided_without _ _ _ _ (waits_in image stores sorted merge.waiting) rises so_decided _
+          (waits_in image stores sorted after) decides.1 (λ below. ap (λ k. slice_cmp nat_cmp k (key_at (entries_in image sorted) merge.passed)) decides.2 ∙
+          its_choice.stays stays below) let_go_row)
+    ]
+      where
+        let_go_row : (key : List ℕ) → waits_in image stores sorted after key ≡ cond (bytes_eq decides.0.key key) None (waits_in image stores sorted merge.waiting key)
+        let_go_row key = waits_gone image stores sorted merge.waiting after choice.key.0 decides.0.key decides.2 gone key
 
 -- the last key of one key more
 last_decided : (rows : List StoredRow) (decided : ℕ) (row : StoredRow) (own key : Key) → slice_get rows decided ≡ Some row
@@ -126,7 +145,7 @@ ahead_after rows false passed ahead is = is
 -- the next entry is skipped only if there is one
 pub skipped_inside : (passed count : ℕ) (last : Option Key) (first : Option (Key × Source)) (next : Option Key) (choice : Choice)
     → choice_of first next ≡ Some choice → is_some next ≡ nat_lt passed count → (is_behind last next || choice.passes) ≡ true → passed < count
-skipped_inside passed count last first next choice made some skips = search (arith, ltb-true)
+skipped_inside passed count last first next choice made some skips = search arith
 
 -- the bytes of the entries that are skipped after a key
 passed_bytes : (rows : List StoredRow) (passes : Bool) (passed : ℕ) (ahead : List (List ℕ)) → (passes ≡ true → 0 < length ahead) → AreEntries rows passed ahead
@@ -139,7 +158,7 @@ abbrev NextSlots : List ℕ → List HashState → SortedState → MergeState �
 NextSlots image stores sorted merge slots = merge.store < length stores → AreSlots sorted.shape (get_or (regions_of stores) merge.store 0) image merge.slot slots
 
 -- a merge with other slots and entries ahead, whatever it found damaged, if they are the next ones
-merged_with : (content : Content) (stores : List HashState) (sorted : SortedState) (merge : MergeState) (slots ahead : List (List ℕ)) (damaged : Option Place)
+pub merged_with : (content : Content) (stores : List HashState) (sorted : SortedState) (merge : MergeState) (slots ahead : List (List ℕ)) (damaged : Option Place)
     → (IsTrue content.honest → sorted.shape ≡ merge.shape → NextSlots content.shown stores sorted merge merge.slots → NextSlots content.shown stores sorted merge slots)
     → (IsTrue content.honest → AreEntries (entries_of content sorted) merge.passed merge.ahead → AreEntries (entries_of content sorted) merge.passed ahead)
     → HasMerged content stores sorted merge → HasMerged content stores sorted (record merge { slots = slots; ahead = ahead; damaged = damaged })
@@ -153,24 +172,26 @@ merged_with content stores sorted merge slots ahead damaged next_slots next_entr
       search arith;
 }
 
--- one with entries that are read ahead
-pub merged_ahead : (content : Content) (stores : List HashState) (sorted : SortedState) (merge : MergeState) (ahead : List (List ℕ))
-    → (IsTrue content.honest → AreEntries (entries_of content sorted) merge.passed ahead)
-    → HasMerged content stores sorted merge → HasMerged content stores sorted (record merge { ahead = ahead })
-merged_ahead content stores sorted merge ahead there = search (arith, merged_with)
-
--- one with slots that are read ahead
-pub merged_slots : (content : Content) (stores : List HashState) (sorted : SortedState) (merge : MergeState) (slots : List (List ℕ))
-    → (IsTrue content.honest → sorted.shape ≡ merge.shape → AreSlots sorted.shape (get_or (regions_of stores) merge.store 0) content.shown merge.slot slots)
-    → HasMerged content stores sorted merge → HasMerged content stores sorted (record merge { slots = slots })
-merged_slots content stores sorted merge slots there = search (arith, merged_with)
-
 -- what is found damaged does not matter for what is merged
 pub merged_noted : (content : Content) (stores : List HashState) (sorted : SortedState) (merge : MergeState) (damaged : Option Place)
     → HasMerged content stores sorted merge → HasMerged content stores sorted (record merge { damaged = damaged })
 merged_noted content stores sorted merge damaged = merged_with _ stores sorted merge _ _ _ (λ honest shape slots. slots) (λ honest entries. entries)
 
 -- ---- on a disk
+
+-- a merge once a key is decided
+abbrev pub decided_to : MergeState → Choice → List (Key × Source) → Bool → BuilderState → Taken → Sha1 → MergeState
+decided_to merge choice after due index input hasher = record merge {
+  waiting = after;
+  passed = passed_after choice.passes merge.passed;
+  written = written_after due merge.written;
+  index = index;
+  decided = merge.decided + 1;
+  last = Some choice.key;
+  ahead = parts_after choice.passes merge.ahead;
+  input = input;
+  hasher = hasher;
+}
 
 -- on an honest disk the next entry is above the last key, so that none is passed over for its key
 pub merged_behind : (content : Content) (stores : List HashState) (sorted : SortedState) (merge : MergeState) (next : Option Key) (bytes : List ℕ) (input : Taken) → IsHeldMerge merge
@@ -185,14 +206,10 @@ merged_behind content stores sorted merge next bytes input held all some there b
   apart = is.apart;
   hashed = is.hashed;
   merged = λ honest sound.
-      let image : List ℕ = content.shown in
       let so_far = is.merged honest sound in
-      let past : length (regions_of stores) ≤ merge.store = omega (arith, regions_count stores, is.counted) in
-      let rises = rises_of (entries_in image sorted) sound.entries in
-      let decided = decided_of image stores sorted merge past (held.ended all) so_far.gathered in
-      absurd (go next merge.last refl some (there honest so_far.gathered.ahead) behind (λ key is_key below.
-      next_above (entries_in image sorted) (rows_of_hashes sorted.shape image (regions_of stores)) merge.decided merge.passed
-      (waits_in image stores sorted merge.waiting) rises decided key.0 (so_far.gathered.last key is_key) (omega (arith, entry_count sorted.shape sorted.region sorted.count image, below))));
+      absurd (go next merge.last refl some (there honest so_far.gathered.ahead) behind (λ key is_key below. next_above _ _ merge.decided merge.passed (waits_in
+      content.shown stores sorted merge.waiting) (rises_of _ sound.entries) (so_decided _ stores sorted merge held all is honest sound) key.0
+      (so_far.gathered.last key is_key) (omega (arith, entry_count sorted.shape sorted.region sorted.count content.shown, below))));
 }
   where
     go : (next : Option Key) (last : Option Key) → merge.last ≡ last → is_some next ≡ nat_lt merge.passed sorted.count
@@ -236,17 +253,7 @@ module _ (old new : Content) (stores : List HashState) (sorted : SortedState) (m
       → ((hashed : List ℕ) → Holds merge.hasher hashed → Holds hasher (hashed_after due hashed row_bytes))
       → HasMerged old stores sorted merge
       → HasMerged new stores sorted
-      (record merge {
-        waiting = after;
-        passed = passed_after choice.passes merge.passed;
-        written = written_after due merge.written;
-        index = index;
-        decided = merge.decided + 1;
-        last = Some choice.key;
-        ahead = parts_after choice.passes merge.ahead;
-        input = input;
-        hasher = hasher;
-      })
+      (decided_to merge choice after due index input hasher)
   unfolding sources
   merged_step first next choice bytes row_bytes after due count index input hasher all its_first made some there is_ahead read due_is counted written gone indexes takes hashes is = record {
     shape = is.shape;
@@ -259,52 +266,34 @@ module _ (old new : Content) (stores : List HashState) (sorted : SortedState) (m
     merged = λ honest sound.
         let was : IsTrue old.honest = sym changes.honest ∙ honest in
         let image : List ℕ = old.shown in
-        let merge_after : MergeState =
-        record merge {
-          waiting = after;
-          passed = passed_after choice.passes merge.passed;
-          written = written_after due merge.written;
-          index = index;
-          decided = merge.decided + 1;
-          last = Some choice.key;
-          ahead = parts_after choice.passes merge.ahead;
-          input = input;
-          hasher = hasher;
-        } in
+        let merge_after : MergeState = decided_to merge choice after due index input hasher in
         let same = sources_stay is sound was in
         let sound_old = sound_before old.shown new.shown stores sorted same sound in
         let so_far = is.merged was sound_old in
         let past : length (regions_of stores) ≤ merge.store = omega (arith, regions_count stores, is.counted) in
         let none = held.ended all in
-        let rises = rises_of (entries_in image sorted) sound_old.entries in
-        let decided = decided_of image stores sorted merge past none so_far.gathered in
         let long = entry_count sorted.shape sorted.region sorted.count image in
-        let choices = chosen (entries_in image sorted) merge.passed bytes (source_row sorted.shape image (regions_of stores))
-        merge.waiting first next choice its_first (there was so_far.gathered.ahead) (some ∙ ap (nat_lt merge.passed) (sym long)) made in
-        let next_row = decides image stores sorted merge choice bytes rises decided choices in
-        let reads = subst (λ (s : Shape). ReadsRow s image (regions_of stores) choice.key.0 choice.source bytes row_bytes) (sym is.shape) (read was) in
-        let its_due = due_is_row image stores sorted merge choice bytes rises decided choices row_bytes reads in
+        let choices = its_choice old stores sorted merge held all is was sound_old first next choice bytes row_bytes its_first made some there read in
+        let next_row = decides old stores sorted merge held all is was sound_old first next choice bytes row_bytes its_first made some there read in
+        let its_due = due_is_row old stores sorted merge held all is was sound_old first next choice bytes row_bytes its_first made some there read in
         let newest : List StoredRow = newest_rows (entries_in image sorted ++ rows_of_hashes sorted.shape image (regions_of stores)) in
-        let below = slice_get_within newest merge.decided next_row.0 next_row.1 in
-        let after_it = decided_step image stores sorted merge choice bytes rises decided choices after gone in
-        let writes = due_more newest merge.decided cap next_row.0 old_rows
-        (due_rows (choice_puts choice.source) row_bytes) new_rows next_row.1 so_far.writes its_due
-        (rows_due cap merge.written old_rows new_rows (choice_puts choice.source) due row_bytes due_is old_count held.room (written was)) in
+        let after_it = decided_step old stores sorted merge held all is was sound_old first next choice bytes row_bytes its_first made some there read after gone in
+        let writes = due_more newest merge.decided cap next_row.0 old_rows (due_rows (choice_puts choice.source) row_bytes) new_rows next_row.1 so_far.writes
+        its_due (rows_due cap merge.written old_rows new_rows (choice_puts choice.source) due row_bytes due_is old_count held.room (written was)) in
         let keys = keys_written cap merge.written old_rows new_rows (choice_puts choice.source) due row_bytes due_is old_count held.room (written was) next_row.0 choice.key.0 its_due next_row.2 in
         let above = above_index old_rows newest merge.index.building merge.decided cap next_row.0
         choice.key.0 (rises_newest (entries_in image sorted ++ rows_of_hashes sorted.shape image (regions_of stores))) so_far.index so_far.writes next_row.1 next_row.2 in
         let built : IsBuildingOf (keys_after due (keys_of old_rows) choice.key.0) index.building =
         indexes (keys_of old_rows) so_far.index (length-map old_rows (λ (r : StoredRow). r.key) ∙ old_count) above in
         let holds : HasTaken input (entries_bytes (take (passed_after choice.passes merge.passed) (entries_in image sorted))) =
-        rw (passed_bytes (entries_in image sorted) choice.passes merge.passed merge.ahead (λ passes. is_ahead (let it = choices.passes passes in omega (arith, it.0, long))) so_far.gathered.ahead)
+        rw (passed_bytes (entries_in image sorted) choice.passes merge.passed merge.ahead (λ passes. is_ahead (omega (arith, (choices.passes passes).0, long))) so_far.gathered.ahead)
         (takes (entries_bytes (take merge.passed (entries_in image sorted))) (so_far.gathered.entries_hashed (omega (arith, past, regions_count stores)))) in
-        let gathered = gathered_of image stores sorted merge_after past none (omega (arith, below))
+        let gathered = gathered_of image stores sorted merge_after past none (omega (arith, slice_get_within newest merge.decided next_row.0 next_row.1))
         (λ key is_key. last_decided newest merge.decided next_row.0 choice.key key next_row.1 next_row.2 is_key)
         (ahead_after (entries_in image sorted) choice.passes merge.passed merge.ahead so_far.gathered.ahead) holds after_it in
-        merged_same old.shown new.shown stores sorted same merge_after
-        (λ key source found. source_inside stores sorted merge held is.shape is.counted key source (still_inside choice after gone key source found))
-        (inr none) (omega (arith, none)) gathered (rows_after ∙ writes)
-        (subst (λ (l : List (List ℕ)). IsBuildingOf l index.building) (sym (ap keys_of rows_after ∙ keys)) built);
+        merged_same old.shown new.shown stores sorted same merge_after (λ key source found. source_inside stores sorted merge held is.shape is.counted key
+        source (still_inside choice after gone key source found)) (inr none) (omega (arith, none)) gathered (rows_after ∙ writes) (subst (λ (l : List (List ℕ)).
+        IsBuildingOf l index.building) (sym (ap keys_of rows_after ∙ keys)) built);
   }
     where
       cap : ℕ
@@ -323,30 +312,6 @@ module _ (old new : Content) (stores : List HashState) (sorted : SortedState) (m
       rows_after : sorted_rows merge.shape merge.region (written_after due merge.written) new.shown ≡ new_rows
       rows_after = ap (λ n. sorted_rows merge.shape merge.region n new.shown) (sym (count_written cap _ _ due count due_is counted))
 
--- the next row to decide is a put, if the row that decides is
-pub next_puts : (content : Content) (stores : List HashState) (sorted : SortedState) (merge : MergeState) (first : Option (Key × Source))
-    (next : Option Key) (choice : Choice) (bytes row_bytes : List ℕ) → IsHeldMerge merge → merge.store ≡ merge.stores → IsFirstWaiting merge.waiting first
-    → choice_of first next ≡ Some choice → is_some next ≡ nat_lt merge.passed sorted.count
-    → (IsTrue content.honest → AreEntries (entries_of content sorted) merge.passed merge.ahead → IsNextEntry (entries_of content sorted) merge.passed bytes next)
-    → (IsTrue content.honest → ReadsRow merge.shape content.shown (regions_of stores) choice.key.0 choice.source bytes row_bytes) → choice_puts choice.source ≡ true
-    → IsTrue content.honest → HasMerged content stores sorted merge → AreSound content.shown stores sorted
-    → IsSomeAnd (slice_get (newest_rows (sources content.shown stores sorted)) merge.decided) (λ row. is_put_row row ≡ true)
-unfolding sources
-next_puts content stores sorted merge first next choice bytes row_bytes held all its_first made some there read puts honest is sound =
-    let image : List ℕ = content.shown in
-    let so_far = is.merged honest sound in
-    let past : length (regions_of stores) ≤ merge.store = omega (arith, regions_count stores, is.counted) in
-    let rises = rises_of (entries_in image sorted) sound.entries in
-    let decided = decided_of image stores sorted merge past (held.ended all) so_far.gathered in
-    let long = entry_count sorted.shape sorted.region sorted.count image in
-    let choices = chosen (entries_in image sorted) merge.passed bytes (source_row sorted.shape image (regions_of stores)) merge.waiting
-    first next choice its_first (there honest so_far.gathered.ahead) (some ∙ ap (nat_lt merge.passed) (sym long)) made in
-    let next_row = decides image stores sorted merge choice bytes rises decided choices in
-    let reads = subst (λ (s : Shape). ReadsRow s image (regions_of stores) choice.key.0 choice.source bytes row_bytes) (sym is.shape) (read honest) in
-    let its_due = due_is_row image stores sorted merge choice bytes rises decided choices row_bytes reads in
-    let put : is_put_row next_row.0 ≡ true = puts_row row_bytes next_row.0 (sym (ap (λ b. due_rows b row_bytes) puts) ∙ its_due) in
-    subst (λ (o : Option StoredRow). IsSomeAnd o (λ row. is_put_row row ≡ true)) (sym next_row.1) put
-
 -- ---- on any disk
 
 -- a merge with others ahead, another index with as many keys as there may be, and another hasher
@@ -354,24 +319,12 @@ pub held_with : (merge : MergeState) (slots ahead : List (List ℕ)) (index : Bu
     → IsHeldMerge merge → IsHeldMerge (record merge { slots = slots; ahead = ahead; index = index; hasher = hasher })
 held_with merge slots ahead index hasher most held = search arith
 
--- with what is read ahead
-pub held_reads : (merge : MergeState) (slots ahead : List (List ℕ)) → IsHeldMerge merge → IsHeldMerge (record merge { slots = slots; ahead = ahead })
-held_reads merge slots ahead held = held_with merge slots ahead _ _ held.index held
-
 -- a merge with one key more, whose entry is written or not
 pub decided_held : (merge : MergeState) (choice : Choice) (is_written : Bool) (after : List (Key × Source)) (ahead : List (List ℕ)) (input : Taken)
     → IsHeldMerge merge → merge.store ≡ merge.stores → IsOffered merge.waiting merge.last choice
     → (is_written ≡ true → merge.written < merge.shape.sorted_capacity) → ((key : List ℕ) → source_at after key ≡ cond (bytes_eq choice.key.0 key) None (source_at merge.waiting key))
     → length after ≤ length merge.waiting → ((source : Source) → source_at merge.waiting choice.key.0 ≡ Some source → length after + 1 ≡ length merge.waiting)
-    → IsHeldMerge (record merge {
-      waiting = after;
-      passed = passed_after choice.passes merge.passed;
-      written = written_after is_written merge.written;
-      decided = merge.decided + 1;
-      last = Some choice.key;
-      ahead = ahead;
-      input = input;
-    })
+    → IsHeldMerge (record (decided_to merge choice after is_written merge.index input merge.hasher) { ahead = ahead })
 decided_held merge choice is_written after ahead input held all offers room gone long less = record {
   there = held.there;
   store = held.store;
@@ -420,24 +373,18 @@ offered_inside merge choice held offers source is = held.inside choice.key.0 sou
 
 -- ---- done
 
--- the entries of a store of what is written
-pub entries_written : (merge : MergeState) (content : Content) (store made : SortedState) (count : ℕ) → store ≡ made
-    → made ≡ (let s : SortedState = record { shape = merge.shape; region = merge.region; count = count } in s)
-    → count ≡ merge.written → entries_of content store ≡ sorted_rows merge.shape merge.region merge.written content.shown
-entries_written merge content store made count same is all = cc
-
 module _ (merge : MergeState) (sorted : SortedState) where
   -- a merge in which a row waits is not done
   pub not_decided : length merge.waiting ≢ 0 → false ≡ is_done merge sorted
-  not_decided some = search (arith, ne_eqb)
+  not_decided some = search arith
 
   -- nor is one that still gathers
   pub not_gathered : merge.store < merge.stores → false ≡ is_done merge sorted
-  not_gathered below = sym (ap (λ b. (b && (length merge.waiting == 0)) && nat_le sorted.count merge.passed) (ne_eqb merge.store merge.stores (λ same. absurd (omega (arith, below, same)))))
+  not_gathered below = sym (search arith)
 
   -- once all slots are gathered and no row waits, the entries decide
   pub entries_decide : merge.store ≡ merge.stores → length merge.waiting ≡ 0 → nat_le sorted.count merge.passed ≡ is_done merge sorted
-  entries_decide all none = search (arith, and_from, eq-eqb)
+  entries_decide all none = search arith
 
   -- what a merge that is done has
   done_parts : is_done merge sorted ≡ true → (merge.store ≡ merge.stores) × (merge.waiting ≡ []) × (sorted.count ≤ merge.passed)
@@ -451,7 +398,7 @@ module _ (merge : MergeState) (sorted : SortedState) where
       no_length (x ∷ l) none = absurd (omega arith)
 
   done_from : merge.store ≡ merge.stores → merge.waiting ≡ [] → sorted.count ≤ merge.passed → is_done merge sorted ≡ true
-  done_from all none past = search (arith, and_from, eq-eqb, le-leb)
+  done_from all none past = search arith
 
   -- one that is not done has a key to decide once all slots are gathered
   pub nothing_left : (first : Option (Key × Source)) (next : Option Key) → is_done merge sorted ≡ false → merge.store ≡ merge.stores
@@ -466,8 +413,7 @@ module _ (merge : MergeState) (sorted : SortedState) where
   nothing_waits [] none = refl
   nothing_waits ((key, source) ∷ waiting) none =
       let here : source_at ((key, source) ∷ waiting) key.0 ≡ Some source = cond-true _ _ _ (is_eq-slice_cmp key.0 key.0 ∙ key_itself key.0 key.0 refl) in
-      let nothing = none key.0 in
-      absurd (cc)
+      search arith
 
   -- a merge that is done has decided each key
   all_keys : (content : Content) (stores : List HashState) → IsHeldMerge merge → HasMerged content stores sorted merge → IsTrue content.honest → AreSound content.shown stores sorted
@@ -477,13 +423,10 @@ module _ (merge : MergeState) (sorted : SortedState) where
       let image : List ℕ = content.shown in
       let parts = done_parts done in
       let so_far = is.merged honest sound in
-      let past : length (regions_of stores) ≤ merge.store = omega (arith, regions_count stores, is.counted, parts.0) in
-      let decided = decided_of image stores sorted merge past (held.ended parts.0) so_far.gathered in
       let long = entry_count sorted.shape sorted.region sorted.count image in
       let all = all_decided (entries_in image sorted) (rows_of_hashes sorted.shape image (regions_of stores)) merge.decided merge.passed (waits_in image stores sorted merge.waiting)
-      (rises_of (entries_in image sorted) sound.entries) decided (λ key. ap (λ l. waits_in image stores sorted l key) parts.1) (omega (arith, long, parts.2)) in
-      let most = so_far.gathered.most in
-      omega (arith, all, most)
+      (rises_of _ sound.entries) (so_decided _ stores sorted merge held parts.0 is honest sound) (λ key. ap (λ l. waits_in image stores sorted l key) parts.1) (omega (arith, long, parts.2)) in
+      search arith
 
   -- it is done after so many steps
   pub done_steps : (content : Content) (stores : List HashState) (done : Bool) → done ≡ is_done merge sorted → IsHeldMerge merge
@@ -494,22 +437,17 @@ module _ (merge : MergeState) (sorted : SortedState) where
   done_steps content stores done same held is honest sound = (
     λ it.
         let is_it : is_done merge sorted ≡ true = sym same ∙ it in
-        let keys = all_keys content stores held is honest sound is_it in
         let store = (done_parts is_it).0 in
-        let slot = held.ended store in
-        let slots : merge.store * (4 * merge.shape.buckets) ≡ merge.stores * (4 * merge.shape.buckets) = ap (λ n. n * (4 * merge.shape.buckets)) store in
-        omega (arith, keys, slots, slot),
+        omega (arith, all_keys content stores held is honest sound is_it, ap (λ n. n * (4 * merge.shape.buckets)) store, held.ended store),
     λ steps.
         let image : List ℕ = content.shown in
         let so_far = is.merged honest sound in
         let most = so_far.gathered.most in
         let whole = all_gathered_at most steps in
-        let past : length (regions_of stores) ≤ merge.store = omega (arith, regions_count stores, is.counted, whole.0) in
-        let decided = decided_of image stores sorted merge past (held.ended whole.0) so_far.gathered in
-        let long = entry_count sorted.shape sorted.region sorted.count image in
         let none = none_waits (entries_in image sorted) (rows_of_hashes sorted.shape image (regions_of stores)) merge.decided
-        merge.passed (waits_in image stores sorted merge.waiting) (rises_of (entries_in image sorted) sound.entries) decided whole.1 in
-        same ∙ done_from whole.0 (nothing_waits merge.waiting (λ key. no_source (source_at merge.waiting key) (none.0 key))) (omega (arith, long, none.1)),
+        merge.passed (waits_in image stores sorted merge.waiting) (rises_of _ sound.entries) (so_decided _ stores sorted merge held whole.0 is honest sound) whole.1 in
+        same ∙ done_from whole.0 (nothing_waits merge.waiting (λ key. no_source (source_at merge.waiting key) (none.0 key)))
+        (omega (arith, entry_count sorted.shape sorted.region sorted.count image, none.1)),
   )
     where
       no_source : (o : Option Source) → option_map (source_row sorted.shape content.shown (regions_of stores)) o ≡ None → o ≡ None

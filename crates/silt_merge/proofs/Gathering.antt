@@ -1,33 +1,26 @@
 -- What waits after one slot more.
-use Rattle.silt_merge.proofs.Common.{◌≡◌, ℕ, zero, suc, ◌+◌, ◌*◌, ◌<◌, ◌≤◌, true, false, List, [], ◌∷◌, ◌++◌, filter, flat_map, length, map, take, get_or, Option, Some, None, option_map}
-use Rattle.silt_merge.proofs.Common.{refl, sym, ap, ◌∙◌, arith, bytes_eq, option_or, cases_Bool, cond-true, cond-false, eqb-true, take_more, Shape, Row, IsRowAt, slot_row, hash_part}
-use Rattle.silt_merge.proofs.Common.{all_before, newest_row, hash_findings, StoredRow, Gathers, slot_after, source_at, Key, source_row, rows_of_hashes, Source}
-use Rattle.std.proofs.Common.{append_assoc, append-nil}
-use Rattle.std.proofs.lemmas.Bool.{or_parts}
-use Rattle.std.proofs.lemmas.List.{map-append, take_all}
-use Rattle.std.proofs.lemmas.List.Elements.{filter-append}
-use Rattle.silt_hash_store.specs.Slots.{rows_before, hash_rows}
+use Rattle.silt_merge.proofs.Common.{◌≡◌, ℕ, zero, suc, ◌+◌, ◌*◌, ◌<◌, ◌≤◌, true, false, List, [], ◌∷◌, ◌++◌, filter, flat_map, length, map, take, get_or, Option, Some, None, option_map, refl}
+use Rattle.silt_merge.proofs.Common.{sym, ap, arith, bytes_eq, option_or, cond-true, cond-false, take_more, Shape, Row, IsRowAt, slot_row, hash_part, all_before, newest_row, hash_findings}
+use Rattle.silt_merge.proofs.Common.{StoredRow, Gathers, slot_after, source_at, Key, source_row, rows_of_hashes, Source, append_assoc, append-nil, map-append, take_all, filter-append, hash_rows}
+use Rattle.silt_merge.proofs.Common.{before_more, before_taken, sound_parts, holds_key, has_known_kind, own_source}
+use Rattle.silt_hash_store.specs.Slots.{rows_before}
 use Rattle.silt_hash_store.proofs.Growing.{all_sound}
-use Rattle.silt_hash_store.proofs.Slotting.{before_more, before_taken, sound_parts}
-use Rattle.silt_hash_store.specs.Findings.{holds_key}
-use Rattle.silt_log.specs.Parts.{known_rows, oldest_first}
+use Rattle.silt_log.specs.Parts.{oldest_first}
 use Rattle.silt_event.proofs.Findings.{nothing_first, nothing_second}
-use Rattle.silt_frame.specs.Rows.{has_known_kind}
-use Rattle.silt_merge.specs.Choice.{own_source}
 use Rattle.silt_merge.specs.Merging.{gathered_rows}
-use Rattle.silt_merge.proofs.Newest.{key_is, newest_append, newest_cons, or_none, own}
+use Rattle.silt_merge.proofs.Newest.{key_is, newest_append, newest_cons, own}
 
 -- ---- rows
 
 -- one more row, with newer rows behind it
 row_more : (older newer : List StoredRow) (row : StoredRow) (key : List ℕ) → (bytes_eq row.key key ≡ true → newest_row older key ≡ None)
     → newest_row ((older ++ row ∷ []) ++ newer) key ≡ option_or (newest_row (older ++ newer) key) (own row key)
-row_more older newer row key alone = search (arith, alone, newest_append, newest_cons, or_none)
+row_more older newer row key alone = search (arith, newest_append)
 
 -- no row of a known kind has a key that no row of a known kind has
 none_known : (key : List ℕ) (rows : List StoredRow) → holds_key key rows ≡ false → newest_row (filter has_known_kind rows) key ≡ None
 none_known key [] none = refl
-none_known key (row ∷ rows) none = search (arith, none_known key rows, or_parts, cond-true, newest_cons, cond-false)
+none_known key (row ∷ rows) none = search (arith, none_known key rows, newest_cons)
 
 -- a list with one row more at its end, as far as rows are of known kinds
 known_more : (rows : List StoredRow) (row : StoredRow) → has_known_kind row ≡ true → filter has_known_kind (rows ++ row ∷ []) ≡ filter has_known_kind rows ++ row ∷ []
@@ -41,7 +34,7 @@ unknown_more rows row unknown = cc (filter-append has_known_kind rows (row ∷ [
 -- a store behind others is older than they are
 oldest_behind : (stores : List (List StoredRow)) (last : List StoredRow) → oldest_first (stores ++ last ∷ []) ≡ last ++ oldest_first stores
 oldest_behind [] last = sym (append-nil last)
-oldest_behind (newest ∷ older) last = ap (λ l. l ++ newest) (oldest_behind older last) ∙ append_assoc last (oldest_first older) newest
+oldest_behind (newest ∷ older) last = search (arith, oldest_behind older last, append_assoc)
 
 -- nothing is found in each of the stores
 pub each_sound : (s : Shape) (image regions : List ℕ) (store : ℕ) → flat_map (hash_findings s) (map (hash_part s image) regions) ≡ [] → store < length regions
@@ -66,10 +59,7 @@ module _ (s : Shape) (image regions : List ℕ) (store : ℕ) where
   unfolding gathered_rows
   store_gathered below =
       let more : take (store + 1) regions ≡ take store regions ++ region ∷ [] = take_more regions store 0 below in
-      let parts : map known_rows (map (hash_part s image) (take store regions ++ region ∷ [])) ≡ map known_rows (map (hash_part s image) (take store regions))
-      ++ known_rows (hash_part s image region) ∷ [] = ap (map known_rows) (map-append (hash_part s image) (take store regions) (region ∷ [])) ∙ map-append
-      known_rows (map (hash_part s image) (take store regions)) (hash_part s image region ∷ []) in
-      cc (all_before s region image, oldest_behind (map known_rows (map (hash_part s image) (take store regions))) (known_rows (hash_part s image region)))
+      search (arith, map-append, all_before, oldest_behind)
 
 -- no slot of a store
 pub none_gathered : (s : Shape) (image regions : List ℕ) (store : ℕ) → gathered_rows s image regions store 0 ≡ rows_of_hashes s image (take store regions)
@@ -102,8 +92,7 @@ module _ (s : Shape) (image regions : List ℕ) (store slot : ℕ) (below : stor
       let region : ℕ = get_or regions store 0 in
       let sound = all_sound s region image (each_sound s image regions store none below) slot inside in
       let parts = sound_parts s (hash_rows s region image) slot shown known sound in
-      none_known key (rows_before s region image slot)
-      (ap (λ k. holds_key k (rows_before s region image slot)) (sym (key_is shown.key key same)) ∙ ap (holds_key shown.key) (sym (before_taken s region image slot (omega arith))) ∙ parts.1)
+      none_known key (rows_before s region image slot) (cc (key_is shown.key key same, before_taken s region image slot (omega arith), parts.1))
 
   -- the newest row of a key with one more slot, if the slot has a row of a known kind
   row_gathered : (row : Row) (key : List ℕ) → IsRowAt shown slot (Some row)
@@ -119,7 +108,7 @@ module _ (s : Shape) (image regions : List ℕ) (store slot : ℕ) (below : stor
 -- the rows that are gathered before the next slot
 pub next_gathered : (s : Shape) (image regions : List ℕ) (store slot : ℕ) → store < length regions
     → gathered_rows s image regions (slot_after store slot (4 * s.buckets)).0 (slot_after store slot (4 * s.buckets)).1 ≡ gathered_rows s image regions store (slot + 1)
-next_gathered s image regions store slot below = search (arith, cases_Bool, cond-true, none_gathered, eqb-true, store_gathered, cond-false)
+next_gathered s image regions store slot below = search (arith, none_gathered, store_gathered)
 
 -- the rows that wait after a slot was gathered are the newest of those that are gathered
 pub waits_kept : (s : Shape) (image regions : List ℕ) (store slot : ℕ) (row : Option Row) (before after : List (Key × Source)) → store < length regions → slot < 4 * s.buckets

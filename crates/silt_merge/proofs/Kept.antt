@@ -1,12 +1,9 @@
 -- The map of the rows that wait, by the bytes of keys.
-use Rattle.silt_merge.proofs.Common.{◌≡◌, ◌≢◌, ℕ, false, true, cond, List, Option, Some, None, refl, ap, ◌∙◌, bytes_eq, Less, slice_cmp, is_eq-slice_cmp, Key, Row, Gathers, source_at}
-use Rattle.silt_merge.proofs.Common.{Source}
-use Rattle.std.proofs.Common.{BTreeMap, is_some}
-use Rattle.std.specs.BTreeMap as tree
-use Rattle.std.specs.Ordering.{is_gt, nat_cmp, ordering_reverse}
+use Rattle.silt_merge.proofs.Common.{◌≡◌, ◌≢◌, ℕ, false, true, cond, List, Option, Some, None, refl, ap, ◌∙◌, bytes_eq, Less, slice_cmp, is_eq-slice_cmp, Key, Row, Gathers, source_at, Source}
+use Rattle.silt_merge.proofs.Common.{BTreeMap, is_some, is_gt, nat_cmp, ordering_reverse, key_cmp}
 use Rattle.std.specs.Cmp.Lexicographic.{nat_list_cmp_total}
 use Rattle.silt_merge.proofs.Newest.{key_is, prefer}
-use Rattle.silt_frame.specs.Rows.{key_cmp}
+use Rattle.std.specs.BTreeMap as tree
 
 -- no row waits for a key below the first
 pub first_least : (waiting : BTreeMap Key Source) (key : Key) → tree.IsLowerBound key_cmp waiting key → (other : List ℕ) (its : Source)

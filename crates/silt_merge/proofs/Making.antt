@@ -1,7 +1,5 @@
 -- How many writes a step of a merge makes.
-use Rattle.silt_merge.proofs.Common.{◌≡◌, ℕ, ◌+◌, ◌-◌, ◌≤◌, Bool, true, false, cond, arith, written_after}
-use Rattle.silt_disk.specs.Disk.{Makes}
-use Rattle.silt_disk.proofs.Costs.{none_made}
+use Rattle.silt_merge.proofs.Common.{◌≡◌, ℕ, ◌+◌, ◌-◌, ◌≤◌, Bool, true, false, cond, arith, written_after, Makes}
 
 -- of one entry at most one is written
 pub one_most : (is_written : Bool) → cond is_written 1 0 ≤ 1
@@ -12,15 +10,7 @@ one_most false = omega arith
 pub grown : (is_written : Bool) (old new : ℕ) → new ≡ written_after is_written old → (old ≤ new) × (new ≤ old + 1)
 grown is_written old new is = search arith
 
--- and none if it stays
-pub stayed : (old new : ℕ) → new ≡ old → (old ≤ new) × (new ≤ old + 1)
-stayed old new same = (omega (arith, same), omega (arith, same))
-
 module _ {D : Type 0} {writes_of syncs_of : D → ℕ} where
-  -- no write if nothing is written
-  pub made_none : {disk : D} (old new : ℕ) → new ≡ old → Makes writes_of syncs_of (new - old) 0 disk disk
-  made_none {disk} old new same = search (arith, none_made)
-
   -- as many as the write of the entry made
   pub made_added : {first second : D} (made count old new : ℕ) → count ≡ old + made → count ≡ new → Makes writes_of syncs_of made 0 first second → Makes writes_of syncs_of (new - old) 0 first second
   made_added {first} {second} made count old new counted is makes = search arith

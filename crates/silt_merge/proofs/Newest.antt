@@ -1,24 +1,14 @@
 -- The newest rows of keys: how one is looked up, and that they rise.
-use Rattle.silt_merge.proofs.Common.{◌≡◌, ℕ, zero, suc, ◌+◌, ◌<◌, ◌≤◌, Bool, true, false, cond, List, [], ◌∷◌, ◌++◌, filter, length, Option, Some, None, inl, inr, refl, sym, ap, ◌∙◌, arith}
-use Rattle.silt_merge.proofs.Common.{bytes_eq, Less, Equal, Greater, option_or, slice_cmp, cases_Bool, cond-true, cond-false, exact_bytes, is_eq-slice_cmp, newest_row, StoredRow, is_put_row}
-use Rattle.silt_merge.proofs.Common.{key_at, newest_rows}
-use Rattle.std.proofs.Common.{◌==◌, find, reverse, option_and_then}
-use Rattle.std.specs.Ordering.{is_eq, nat_cmp, ordering_reverse}
+use Rattle.silt_merge.proofs.Common.{◌≡◌, ℕ, suc, ◌+◌, ◌<◌, ◌≤◌, Bool, true, false, cond, List, [], ◌∷◌, ◌++◌, filter, length, Option, Some, None, inl, inr, refl, sym, ap, ◌∙◌, arith, bytes_eq}
+use Rattle.silt_merge.proofs.Common.{Less, Equal, Greater, option_or, slice_cmp, cases_Bool, cond-false, exact_bytes, is_eq-slice_cmp, newest_row, StoredRow, is_put_row, key_at, newest_rows, ◌==◌}
+use Rattle.silt_merge.proofs.Common.{find, reverse, rules, is_eq, nat_cmp, ordering_reverse, reverse-append, find-append, sum_by-cons, map_of_rows, put_count, newest_law, not_below_itself}
+use Rattle.silt_merge.proofs.Common.{KeyCountLaw, MergedLaw, with_older}
 use Rattle.std.specs.Cmp.Lexicographic.{nat_list_cmp_total}
 use Rattle.std.specs.FinMap.{same_map, slice_cmp-IsAntisymmetric, nat_cmp-IsAntisymmetric}
-use Rattle.std.proofs.lemmas.List.{reverse-append}
-use Rattle.std.proofs.lemmas.List.Folds.{find-append}
-use Rattle.std.proofs.lemmas.List.Sums.{sum_by-cons}
 use Rattle.std.proofs.lemmas.Slice.Eq.{bytes_eq-Decides}
-use Rattle.silt_event.specs.Rows.{value_given, map_of_rows}
 use Rattle.silt_sorted_store.specs.Findings.{sorted_findings}
-use Rattle.silt_frame.specs.Rows.{put_count}
-use Rattle.silt_event.proofs.Rows.{newest_law}
-use Rattle.silt_event.proofs.Findings.{nothing_where_passes}
 use Rattle.silt_sorted_store.proofs.Ranges.{none_of_all}
-use Rattle.silt_sorted_store.proofs.Rising.{not_below_itself}
-use Rattle.silt_merge.specs.Laws.{KeyCountLaw, MergedLaw}
-use Rattle.silt_merge.specs.Rows.{merged_rows, with_older}
+use Rattle.silt_merge.specs.Rows.{merged_rows}
 
 -- ---- keys
 
@@ -95,7 +85,7 @@ older_cases P row first rest less equal greater = search arith
 -- is above what both are above
 above_older : (low : List ℕ) (row : StoredRow) (rows : List StoredRow) → slice_cmp nat_cmp low row.key ≡ Less → Above low rows → Above low (with_older row rows)
 above_older low row [] less above = (less, tt)
-above_older low row (first ∷ rest) less above = search (arith, above_older low row rest less above.1, older_cases)
+above_older low row (first ∷ rest) less above = search (arith, above_older low row rest less above.1)
 
 -- and they rise with it
 rises_older : (row : StoredRow) (rows : List StoredRow) → Rises rows → Rises (with_older row rows)
@@ -123,7 +113,7 @@ behind_first false x new old other is = is
 -- the first row has the key of an older one
 kept_first : (row first : StoredRow) (rest : List StoredRow) (key : List ℕ) (b : Bool) → bytes_eq row.key key ≡ b → row.key ≡ first.key
     → row_with key (first ∷ rest) ≡ option_or (row_with key (first ∷ rest)) (own row key)
-kept_first row first rest key b has same = search (arith, cond-true, cond-false, or_none)
+kept_first row first rest key b has same = search arith
 
 -- the row of a key after one older row
 find_older : (row : StoredRow) (rows : List StoredRow) → Rises rows → (key : List ℕ) → row_with key (with_older row rows) ≡ option_or (row_with key rows) (own row key)
@@ -142,7 +132,7 @@ rises_newest (row ∷ rows) = rises_older row _ (rises_newest rows)
 -- and have the newest row of each key
 pub find_newest : (rows : List StoredRow) (key : List ℕ) → row_with key (newest_rows rows) ≡ newest_row rows key
 find_newest [] key = refl
-find_newest (row ∷ rows) key = cc (find_older row (newest_rows rows) (rises_newest rows) key, find_newest rows key, newest_cons row rows key)
+find_newest (row ∷ rows) key = search (arith, find_newest rows key, find_older, rises_newest, newest_cons)
 
 -- of rows that rise the only row of a key is its newest
 pub newest_rising : (rows : List StoredRow) → Rises rows → (key : List ℕ) → newest_row rows key ≡ row_with key rows
@@ -156,16 +146,13 @@ newest_rising (row ∷ rows) rises key =
 
 -- a key lies below each of the keys that are above it
 above_at : (key : List ℕ) (rows : List StoredRow) → Above key rows → (place : ℕ) → place < length rows → slice_cmp nat_cmp key (key_at rows place) ≡ Less
-above_at key [] above place inside = absurd (omega arith)
-above_at key (row ∷ rows) above zero inside = above.0
 above_at key (row ∷ rows) above (suc place) inside = above_at key rows above.1 place (omega arith)
+above_at key rows above place inside = search (rules, arith)
 
 -- a lower place has a lower key
 pub rises_at : (rows : List StoredRow) → Rises rows → (low high : ℕ) → low < high → high < length rows → slice_cmp nat_cmp (key_at rows low) (key_at rows high) ≡ Less
-rises_at [] rises low high lower inside = absurd (omega arith)
-rises_at (row ∷ rows) rises low zero lower inside = absurd (omega arith)
-rises_at (row ∷ rows) rises zero (suc high) lower inside = above_at _ rows rises.0 high (omega arith)
-rises_at (row ∷ rows) rises (suc low) (suc high) lower inside = rises_at rows rises.1 low high (omega arith) (omega arith)
+rises_at (row ∷ rows) rises (suc low) (suc high) lower inside = search (arith, rises_at rows rises.1 low high)
+rises_at rows rises low high lower inside = search (rules, arith, above_at)
 
 -- and the other way round
 above_from : (key : List ℕ) (rows : List StoredRow) → ((place : ℕ) → place < length rows → slice_cmp nat_cmp key (key_at rows place) ≡ Less) → Above key rows
@@ -182,7 +169,7 @@ rises_from (row ∷ rows) each = (
 -- nothing is found in rows that rise
 pub nothing_rising : (rows : List StoredRow) → Rises rows → sorted_findings rows ≡ []
 unfolding sorted_findings
-nothing_rising rows rises = search (arith, none_of_all, nothing_where_passes, rises_at)
+nothing_rising rows rises = search (arith, none_of_all, rises_at)
 
 -- ---- those that are puts
 
@@ -191,55 +178,32 @@ abbrev put_of : Option StoredRow → Option StoredRow
 put_of None = None
 put_of (Some row) = cond (is_put_row row) (Some row) None
 
--- the first row, if it is a put
-pub put_first : (row : StoredRow) (rows : List StoredRow) → is_put_row row ≡ true → filter is_put_row (row ∷ rows) ≡ row ∷ filter is_put_row rows
-put_first row rows put = cond-true _ _ _ put
-
-pub no_put_first : (row : StoredRow) (rows : List StoredRow) → is_put_row row ≡ false → filter is_put_row (row ∷ rows) ≡ filter is_put_row rows
-no_put_first row rows other = cond-false _ _ _ other
-
--- what holds with a put in front, and without a row that is none
-put_cases : (P : List StoredRow → Type 0) (row : StoredRow) (rows : List StoredRow) → (is_put_row row ≡ true → P (row ∷ filter is_put_row rows))
-    → (is_put_row row ≡ false → P (filter is_put_row rows)) → P (filter is_put_row (row ∷ rows))
-put_cases P row rows put other = search (arith, cases_Bool, put_first, no_put_first)
-
 above_puts : (key : List ℕ) (rows : List StoredRow) → Above key rows → Above key (filter is_put_row rows)
 above_puts key [] above = tt
-above_puts key (row ∷ rows) above = search (arith, above_puts key rows above.1, put_cases)
+above_puts key (row ∷ rows) above = search (arith, above_puts key rows above.1)
 
 -- they rise
 pub rises_puts : (rows : List StoredRow) → Rises rows → Rises (filter is_put_row rows)
 rises_puts [] rises = tt
-rises_puts (row ∷ rows) rises = search (arith, rises_puts rows rises.1, put_cases, above_puts)
+rises_puts (row ∷ rows) rises = search (arith, rises_puts rows rises.1, above_puts)
 
 -- the row of a key among them, with one row in front
 puts_more : (row : StoredRow) (rows : List StoredRow) (key : List ℕ) → row_with key (filter is_put_row rows) ≡ put_of (row_with key rows) → row_with row.key rows ≡ None
     → (p : Bool) → is_put_row row ≡ p → (b : Bool) → bytes_eq row.key key ≡ b → row_with key (filter is_put_row (row ∷ rows)) ≡ put_of (row_with key (row ∷ rows))
-puts_more row rows key further none true put true has = cc (put_first row rows put, cond-true _ _ _ has, cond-true _ _ _ put)
-puts_more row rows key further none true put false lacks = cc (put_first row rows put, cond-false _ _ _ lacks)
-puts_more row rows key further none false other true has = cc (no_put_first row rows other, key_is row.key key has, cond-true _ _ _ has, cond-false _ _ _ other)
-puts_more row rows key further none false other false lacks = cc (no_put_first row rows other, cond-false _ _ _ lacks)
+puts_more row rows key further none true put true has = search arith
+puts_more row rows key further none p put b has = search (rules, arith)
 
 -- the row of a key among them
 find_puts : (rows : List StoredRow) → Rises rows → (key : List ℕ) → row_with key (filter is_put_row rows) ≡ put_of (row_with key rows)
 find_puts [] rises key = refl
 find_puts (row ∷ rows) rises key = puts_more row rows key (find_puts rows rises.1 key) (none_above _ rows rises.0) _ refl _ refl
 
--- a row that is no put gives no value
-put_value : (o : Option StoredRow) → option_and_then value_given (put_of o) ≡ option_and_then value_given o
-put_value o = search (arith, cond-true, cond-false)
-
 -- the map of the newest rows that are puts is that of all rows
 pub merged_map : (rows : List StoredRow) → map_of_rows (merged_rows rows) ≡ map_of_rows rows
 unfolding merged_rows
 merged_map rows =
     same_map nat_list_cmp_total (slice_cmp-IsAntisymmetric nat_cmp-IsAntisymmetric) (map_of_rows (filter is_put_row (newest_rows rows))) (map_of_rows rows)
-    (λ key. newest_law (filter is_put_row (newest_rows rows)) key
-    ∙ ap (option_and_then value_given) (newest_rising (filter is_put_row (newest_rows rows)) (rises_puts (newest_rows rows) (rises_newest rows)) key
-    ∙ find_puts (newest_rows rows) (rises_newest rows) key)
-    ∙ put_value (row_with key (newest_rows rows))
-    ∙ ap (option_and_then value_given) (find_newest rows key)
-    ∙ sym (newest_law rows key))
+    (search (arith, newest_law, newest_rising, rises_puts, rises_newest, find_puts, find_newest))
 
 -- ---- how many there are
 
@@ -250,20 +214,20 @@ charge_more row rows = sum_by-cons (λ (r : StoredRow). cond (r.kind == 1) 1 0) 
 charge_older : (row : StoredRow) (rows : List StoredRow) → put_count (with_older row rows) ≤ put_count (row ∷ rows)
 charge_older row [] = omega arith
 charge_older row (first ∷ rest) =
-    older_cases (λ rows. put_count rows ≤ put_count (row ∷ first ∷ rest)) row first rest (λ is. omega arith) (λ is. omega (arith, charge_more row (first ∷ rest))) (λ is.
-    omega (arith, charge_older row rest, charge_more row (first ∷ rest), charge_more first rest, charge_more row rest, charge_more first (with_older row rest)))
+    older_cases (λ rows. put_count rows ≤ put_count (row ∷ first ∷ rest)) row first rest (λ is. omega arith) (λ is.
+    omega (arith, charge_more row (first ∷ rest))) (search (arith, charge_older row rest, charge_more))
 
 charge_newest : (rows : List StoredRow) → put_count (newest_rows rows) ≤ put_count rows
 charge_newest [] = omega arith
-charge_newest (row ∷ rows) = omega (arith, charge_older row (newest_rows rows), charge_newest rows, charge_more row rows, charge_more row (newest_rows rows))
+charge_newest (row ∷ rows) = search (arith, charge_newest rows, charge_older, charge_more)
 
 charge_puts : (rows : List StoredRow) → (put_count (filter is_put_row rows) ≡ put_count rows) × (length (filter is_put_row rows) ≡ put_count rows)
 charge_puts [] = (refl, refl)
-charge_puts (row ∷ rows) = search (arith, charge_puts rows, put_cases, cond-true, charge_more, cond-false)
+charge_puts (row ∷ rows) = search (arith, charge_puts rows, charge_more)
 
 length_older : (row : StoredRow) (rows : List StoredRow) → length (with_older row rows) ≤ length rows + 1
 length_older row [] = omega arith
-length_older row (first ∷ rest) = search (arith, length_older row rest, older_cases)
+length_older row (first ∷ rest) = search (arith, length_older row rest)
 
 length_newest : (rows : List StoredRow) → length (newest_rows rows) ≤ length rows
 length_newest [] = omega arith

@@ -1,15 +1,9 @@
 -- Parts of a region that were read together, as parts of the bytes that were read.
-use Rattle.silt_merge.proofs.Common.{◌≡◌, ℕ, zero, suc, ◌+◌, ◌-◌, ◌*◌, ◌<◌, ◌≤◌, List, [], ◌∷◌, ◌++◌, get_or, length, refl, sym, ap, ◌∙◌, arith, Shape, row_len, StoredRow, slot_row}
-use Rattle.silt_merge.proofs.Common.{AreEntries, AreSlots, parts_from}
-use Rattle.std.proofs.Common.{slice_range, length-append}
-use Rattle.std.proofs.Math.Seq.{take-append_seam}
+use Rattle.silt_merge.proofs.Common.{◌≡◌, ℕ, zero, suc, ◌+◌, ◌-◌, ◌*◌, ◌<◌, ◌≤◌, List, [], ◌∷◌, ◌++◌, get_or, length, refl, sym, ap, ◌∙◌, arith, Shape, row_len, StoredRow, slot_row, AreEntries}
+use Rattle.silt_merge.proofs.Common.{AreSlots, parts_from, slice_range, length-append, take-append_seam, row_of, HoldsSlots, HoldsEntries, part_inside}
 use Rattle.std.proofs.lemmas.List.Edits.{length-between}
-use Rattle.silt_frame.specs.Rows.{row_of}
-use Rattle.silt_hash_store.specs.Slots.{HoldsSlots}
 use Rattle.silt_log.proofs.Parts.{slice_of_slice}
-use Rattle.silt_sorted_store.specs.Indexing.{HoldsEntries}
 use Rattle.silt_sorted_store.specs.OnlyRow.{HasEntry}
-use Rattle.silt_sorted_store.proofs.Entries.{part_inside}
 
 -- a part of a front
 part_of_front : (front rest : List ℕ) (from count : ℕ) → from + count ≤ length front → slice_range (front ++ rest) from (from + count) ≡ slice_range front from (from + count)

@@ -1,8 +1,6 @@
 -- What the read of a row gives.
-use Rattle.silt_merge.proofs.Common.{◌≡◌, ℕ, ◌<◌, List, [], ◌++◌, length, get_or, Option, Some, None, Ok, Err, refl, ap, ◌∙◌, arith, Shape, slot_row, HashState, StoredRow, Row, IsRowAt}
-use Rattle.silt_merge.proofs.Common.{ReadsRow, regions_of, Source}
-use Rattle.std.proofs.Common.{Result, IfSome, OnOk, All}
-use Rattle.std.proofs.lemmas.List.{drop_at, get_or-map, take_at}
+use Rattle.silt_merge.proofs.Common.{◌≡◌, ℕ, ◌<◌, List, [], ◌++◌, length, get_or, Option, Some, None, Ok, Err, refl, ap, ◌∙◌, Shape, slot_row, HashState, ReadsRow, regions_of, Source, Result}
+use Rattle.silt_merge.proofs.Common.{IfSome, OnOk, All, drop_at, get_or-map, take_at}
 
 -- some hash store
 abbrev pub blank : HashState
@@ -31,7 +29,3 @@ row_read result shape image stores store key source old front value below is sha
 pub each_source : {P : Source → Type 0} (o : Option Source) → ((source : Source) → o ≡ Some source → P source) → IfSome o P
 each_source None each = tt
 each_source (Some source) each = each source refl
-
--- a slot has one row
-pub one_row : (stored : StoredRow) (slot : ℕ) (a b : Option Row) → IsRowAt stored slot a → IsRowAt stored slot b → a ≡ b
-one_row stored slot a b first second = search arith

@@ -1,9 +1,6 @@
 -- Stores that match an honest disk are sound.
-use Rattle.silt_merge.proofs.Common.{◌≡◌, suc, IsTrue, List, [], ◌∷◌, flat_map, map, refl, arith, Content, Shape, HashState, hash_findings, hash_part, regions_of}
-use Rattle.std.proofs.Common.{All}
-use Rattle.silt_hash_store.specs.State.{IsHashStore}
+use Rattle.silt_merge.proofs.Common.{◌≡◌, suc, IsTrue, List, [], ◌∷◌, flat_map, map, refl, arith, Content, Shape, HashState, hash_findings, hash_part, regions_of, All, IsHashStore, SoundStoresLaw}
 use Rattle.silt_event.proofs.Findings.{nothing_both}
-use Rattle.silt_merge.specs.Laws.{SoundStoresLaw}
 
 -- there is no finding in stores that match the disk
 all_stand : (content : Content) (s : Shape) (stores : List HashState) → IsTrue content.honest → All (λ store. store.shape ≡ s) stores → All (IsHashStore content) stores

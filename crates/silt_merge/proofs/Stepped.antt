@@ -1,30 +1,17 @@
 -- What a step does, at its exits.
-use Rattle.silt_merge.proofs.Common.{◌≡◌, Some, None, ℕ, ◌+◌, ◌*◌, ◌-◌, ◌<◌, Bool, List, length, get_or, Ok, Err, inl, inr, refl, sym, subst, ap, ◌∙◌, arith, cond-false, cond-true, le-ltb}
-use Rattle.silt_merge.proofs.Common.{size, entry_len, sorted_at, Place, HashDigest, SortedDigest, HashState, SortedState, MatchesDigests, HasMerged, IsHeldMerge, MergeState, written_after}
-use Rattle.silt_merge.proofs.Common.{TakesStep, NoMemory}
-use Rattle.std.proofs.Common.{Result}
-use Rattle.std.proofs.lemmas.Bool.{lt-ltb}
-use Rattle.silt_disk.specs.Disk.{ChangesWithin, CountsFault, Makes, MakesAtMost}
-use Rattle.silt_disk.specs.Layout.{sorted_size}
-use Rattle.silt_disk.specs.declared.disk.Disk.{Ghosts}
-use Rattle.silt_disk.proofs.Costs.{most_none}
-use Rattle.silt_disk.proofs.Images.{within_refl, within_wider}
-use Rattle.silt_disk.proofs.Regions.{up_least}
-use Rattle.silt_sorted_store.specs.State.{sorted_entry_at}
-use Rattle.silt_merge.specs.Comparing.{HasCompared}
-use Rattle.silt_merge.specs.Merging.{IsSameMerge}
-use Rattle.silt_merge.specs.State.{LastRises, steps_of}
-use Rattle.silt_merge.specs.Steps.{FailsMerge, Finds, TakesMemory, damaged_place}
+use Rattle.silt_merge.proofs.Common.{◌≡◌, Some, None, ℕ, ◌+◌, ◌*◌, ◌-◌, ◌<◌, Bool, List, length, get_or, Ok, Err, inl, inr, refl, sym, subst, ap, ◌∙◌, arith, cond-false, le-ltb, size, entry_len}
+use Rattle.silt_merge.proofs.Common.{sorted_at, Place, HashDigest, SortedDigest, HashState, SortedState, MatchesDigests, HasMerged, IsHeldMerge, MergeState, written_after, TakesStep, Result}
+use Rattle.silt_merge.proofs.Common.{ChangesWithin, CountsFault, Makes, MakesAtMost, sorted_size, Ghosts, most_none, up_least, sorted_entry_at, HasCompared, IsSameMerge, LastRises, steps_of}
+use Rattle.silt_merge.proofs.Common.{FailsMerge, Finds, TakesMemory, damaged_place, Read, Write, Damaged}
+use Rattle.silt_disk.proofs.Images.{within_wider}
 use Rattle.silt_merge.specs.declared.merge.StepError.{StepError}
-use Rattle.silt_merge.specs.declared.merge.StepError.TheVariants.{Read, Write, Damaged}
 use Rattle.silt_merge.proofs.Comparing.{compared_with}
-use Rattle.silt_merge.proofs.Making.{made_none, stayed}
 use Rattle.silt_merge.proofs.Reading.{store_at}
 
 -- what is damaged while a merge gathers
 pub gathering_place : (stores : List HashState) (merge : MergeState) (store : HashState) (region : ℕ) → merge.store < merge.stores → length stores ≡ merge.stores
     → store ≡ get_or stores merge.store store → region ≡ store.region → HashDigest region ≡ damaged_place stores merge
-gathering_place stores merge store region below counted here is = search (arith, store_at, cond-true, lt-ltb)
+gathering_place stores merge store region below counted here is = search (arith, store_at)
 
 -- and what is once all slots are gathered
 pub deciding_place : (stores : List HashState) (merge : MergeState) → merge.store ≡ merge.stores → SortedDigest ≡ damaged_place stores merge
@@ -34,16 +21,12 @@ deciding_place stores merge all = sym (cond-false _ _ _ (le-ltb merge.store merg
 none_stuck : {A : Type 0} (before : MergeState) → before.damaged ≡ None → (place : Place) → before.damaged ≡ Some place → A
 none_stuck before sound place found = let no : None ≡ Some place = sym sound ∙ found in absurd (cc)
 
--- a merge is the same if nothing of it changed but this
-pub same_merge : (merge : MergeState) → IsSameMerge merge merge
-same_merge merge = record { shape = refl; region = refl; stores = refl }
-
 module _ {D F : Type 0} (facts : Ghosts D F) (stores : List HashState) (sorted : SortedState) (digest : List ℕ) where
   -- a step that did nothing
   idle : {T : Type 0} (disk : D) (before : MergeState) (error : StepError F)
       → ((place : Place) → before.damaged ≡ Some place → (let r : Result T (StepError F) = Err error in r) ≡ Err (Damaged place)) → IsHeldMerge before
       → FailsMerge facts stores sorted disk disk before before error → TakesStep {T = T} facts stores sorted digest disk disk before before (Err error)
-  idle {T} disk before error stuck held fails = search (arith, most_none, within_refl, same_merge, stayed)
+  idle {T} disk before error stuck held fails = search (arith, most_none)
 
   -- one that was refused before it wrote
   pub refused : {T : Type 0} (disk : D) (before after : MergeState) (error : StepError F) → after ≡ before → IsHeldMerge before → before.damaged ≡ None
@@ -65,7 +48,7 @@ module _ {D F : Type 0} (facts : Ghosts D F) (stores : List HashState) (sorted :
       → after.last ≡ before.last → after.written ≡ before.written → steps_of after ≡ steps_of before + 1 → before.damaged ≡ None
       → (HasMerged (facts.content disk) stores sorted before → HasMerged (facts.content disk) stores sorted after) → (HasCompared stores sorted digest before → HasCompared stores sorted digest after)
       → Finds (facts.content disk) stores sorted digest before after → TakesStep facts stores sorted digest disk disk before after (Ok x)
-  went_on disk before after x same held last written steps sound merged compared finds = search (arith, made_none, none_stuck, within_refl, stayed)
+  went_on disk before after x same held last written steps sound merged compared finds = search arith
 
   module _ (old new : D) (before after : MergeState) (sound : before.damaged ≡ None) (sizes : size (facts.content new) ≡ size (facts.content old))
       (all : before.store ≡ before.stores) (same : IsSameMerge before after) (held : IsHeldMerge after)
@@ -85,7 +68,7 @@ module _ {D F : Type 0} (facts : Ghosts D F) (stores : List HashState) (sorted :
     -- a step whose write failed
     pub broke : {T : Type 0} (fault : F) → after.last ≡ before.last → after.written ≡ before.written → MakesAtMost facts.writes facts.syncs 1 0 old new
         → CountsFault facts.failures facts.gave old new fault → TakesStep {T = T} facts stores sorted digest old new before after (Err (Write fault))
-    broke fault last written most counts = search (arith, none_stuck, in_region, stayed)
+    broke fault last written most counts = search (arith, in_region)
 
   -- ---- what is read ahead first
 
@@ -127,16 +110,13 @@ module _ {D F : Type 0} (facts : Ghosts D F) (stores : List HashState) (sorted :
 
     -- it needs memory if it did before
     takes_before : TakesMemory (facts.content old) stores sorted read → TakesMemory (facts.content old) stores sorted before
-    takes_before (inl row) = inl (record { gathers = row.gathers; known = row.known; new_key = row.new_key })
-    takes_before (inr key) = inr (record { gathered = key.gathered; room = key.room; puts = λ honest merged sound. key.puts honest (reads merged) sound })
+    takes_before h0 = search arith
 
     -- the cause of an error is that of the step without it
     fails_before : (mid after : MergeState) (error : StepError F) → (mid ≡ read → after ≡ before) → FailsMerge facts stores sorted old new read mid error
         → FailsMerge facts stores sorted old new before after error
     fails_before mid after (Read fault) back fails = (back fails.0, fails.1, fails.2)
-    fails_before mid after (Write fault) back fails = fails
-    fails_before mid after NoMemory back fails = (back fails.0, fails.1, λ merged sound. takes_before (fails.2 (reads merged) sound))
-    fails_before mid after (Damaged place) back fails = (back fails.0, fails.1, fails.2)
+    fails_before mid after error back fails = grind (arith, takes_before)
 
     -- a step that forgets it again after an error
     pub read_and_failed : {T : Type 0} (mid after : MergeState) (slots_after ahead_after : List (List ℕ)) (error : StepError F)

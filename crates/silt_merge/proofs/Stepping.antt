@@ -1,12 +1,10 @@
 -- What each step of a merge leaves.
-use Rattle.silt_merge.proofs.Common.{◌≡◌, ◌≢◌, ℕ, ◌+◌, ◌*◌, ◌<◌, ◌≤◌, ◌⊎◌, eqb, true, cond, IsTrue, List, [], ◌∷◌, length, get_or, take, Option, Some, None, inl, inr, refl, sym, subst, ap}
-use Rattle.silt_merge.proofs.Common.{◌∙◌, arith, cases_Bool, cond-true, cond-false, eq-eqb, eqb-true, le-ltb, Content, Shape, row_len, Key, Row, IsRowAt, slot_row, HashState, newest_row}
-use Rattle.silt_merge.proofs.Common.{SortedState, StoredRow, entries_bytes, rows_bytes, Gathers, HasMerged, AreSlots, parts_after, entries_in, has_row_with, regions_of, IsHeldMerge}
-use Rattle.silt_merge.proofs.Common.{MergeState, ends_store, input_after, slot_after, source_at, BuilderState, IsBuildingOf, Source, Holds, Sha1, HasTaken, Taken}
-use Rattle.std.proofs.Common.{take_all}
+use Rattle.silt_merge.proofs.Common.{◌≡◌, ◌≢◌, ℕ, ◌+◌, ◌*◌, ◌<◌, ◌≤◌, ◌⊎◌, eqb, true, cond, IsTrue, List, [], ◌∷◌, length, get_or, take, Option, None, inl, inr, refl, sym, subst, ap, ◌∙◌, arith}
+use Rattle.silt_merge.proofs.Common.{cases_Bool, cond-true, cond-false, eqb-true, Content, Shape, row_len, Key, Row, IsRowAt, slot_row, HashState, newest_row, SortedState, StoredRow}
+use Rattle.silt_merge.proofs.Common.{entries_bytes, rows_bytes, Gathers, HasMerged, AreSlots, parts_after, entries_in, has_row_with, regions_of, IsHeldMerge, MergeState, ends_store, input_after}
+use Rattle.silt_merge.proofs.Common.{slot_after, BuilderState, IsBuildingOf, Source, Holds, Sha1, HasTaken, Taken, take_all, decided_rows, gathered_rows}
 use Rattle.silt_hash_store.specs.Slots.{rows_before}
 use Rattle.silt_sorted_store.specs.State.{sorted_rows}
-use Rattle.silt_merge.specs.Merging.{decided_rows, gathered_rows}
 use Rattle.silt_merge.proofs.Comparing.{slot_bytes}
 use Rattle.silt_merge.proofs.Elsewhere.{regions_count}
 use Rattle.silt_merge.proofs.Gathering.{next_gathered, none_gathered, waits_kept}
@@ -47,7 +45,7 @@ pub started : (content : Content) (stores : List HashState) (sorted : SortedStat
       damaged = None;
     })
 started content stores sorted shape region waiting index slots ahead input hasher same apart none no_keys none_read none_ahead fresh_input fresh =
-    search (arith, none_gathered, le-ltb, no_slots, take_all, none_written)
+    search (arith, none_gathered, no_slots, take_all, none_written)
 
 -- ---- a slot that is gathered
 
@@ -65,25 +63,20 @@ slots_more store slot slots = elim (cases_Bool (eqb (slot + 1) slots)) [
 
 -- the slot after one of a store
 after_last : (store slot slots : ℕ) → (slot_after store slot slots ≡ (store + 1, 0)) ⊎ ((slot_after store slot slots ≡ (store, slot + 1)) × (slot + 1 ≢ slots))
-after_last store slot slots = search (arith, cases_Bool, cond-true, cond-false, eq-eqb)
-
--- a row that waits names a slot of the stores
-kept_inside : (merge : MergeState) (row : Option Row) (after : List (Key × Source)) → IsHeldMerge merge → merge.store < merge.stores → Gathers merge.store merge.slot row merge.waiting after
-    → (key : List ℕ) (source : Source) → source_at after key ≡ Some source → (source.store < merge.stores) × (source.slot < 4 * merge.shape.buckets)
-kept_inside merge row after held below keeps key source is = search arith
+after_last store slot slots = search arith
 
 -- a merge with one slot more
 pub gathered_held : (merge : MergeState) (row : Option Row) (after : List (Key × Source)) (next : ℕ × ℕ) (slots : List (List ℕ)) (input : Taken) → IsHeldMerge merge
     → merge.store < merge.stores → Gathers merge.store merge.slot row merge.waiting after → length after ≤ length merge.waiting + 1
     → next ≡ slot_after merge.store merge.slot (4 * merge.shape.buckets) → IsHeldMerge (record merge { store = next.0; slot = next.1; waiting = after; slots = slots; input = input })
-gathered_held merge row after next slots input held below keeps long is = search (arith, slots_more, after_last, kept_inside, held.gathers, held.fresh, held.unpassed)
+gathered_held merge row after next slots input held below keeps long is = search (arith, slots_more)
 
 -- the slots that are ahead after one are the next ones, and there are none behind the last slot of a store
 slots_next : (s : Shape) (regions image : List ℕ) (store slot : ℕ) (slots : List (List ℕ)) → AreSlots s (get_or regions store 0) image slot slots
     → AreSlots s (get_or regions (slot_after store slot (4 * s.buckets)).0 0) image (slot_after store slot (4 * s.buckets)).1 (parts_after true slots)
 slots_next s regions image store slot [] are = tt
 slots_next s regions image store slot (part ∷ []) are = tt
-slots_next s regions image store slot (part ∷ other ∷ slots) are = search (arith, after_last, eqb-true, cond-false)
+slots_next s regions image store slot (part ∷ other ∷ slots) are = search arith
 
 -- the hashed bytes are those of the slots before the next one, or none before the first of the next store
 input_next : (s : Shape) (regions image : List ℕ) (store slot : ℕ) (slots : List (List ℕ)) (input : Taken) → 0 < length slots
@@ -91,7 +84,7 @@ input_next : (s : Shape) (regions image : List ℕ) (store slot : ℕ) (slots : 
     → HasTaken input (input_after (eqb (slot + 1) (4 * s.buckets)) (rows_bytes (rows_before s (get_or regions store 0) image slot)) (get_or slots 0 []))
     → ((slot_after store slot (4 * s.buckets)).0 ≡ store + 1 → HasTaken input [])
     × HasTaken input (rows_bytes (rows_before s (get_or regions (slot_after store slot (4 * s.buckets)).0 0) image (slot_after store slot (4 * s.buckets)).1))
-input_next s regions image store slot slots input some long are holds = search (arith, cases_Bool, cond-true, no_slots, cond-false, slot_bytes)
+input_next s regions image store slot slots input some long are holds = search (arith, no_slots, slot_bytes)
 
 -- has gathered one slot more
 pub gathered_step : (content : Content) (stores : List HashState) (sorted : SortedState) (merge : MergeState) (row : Option Row)
@@ -114,30 +107,26 @@ gathered_step content stores sorted merge row after next input held below some l
       let none : merge.decided ≡ 0 = held.gathers below in
       let inside : merge.store < length stores = omega (arith, below, so_far.counted) in
       let within : merge.store < length regions = omega (arith, inside, regions_count stores) in
-      let slot : merge.slot < 4 * s.buckets = subst (λ (t : Shape). merge.slot < 4 * t.buckets) (sym so_far.shape) held.slot in
+      let slot : merge.slot < 4 * s.buckets = rw (← so_far.shape) at held.slot in
       let first : (key : List ℕ) (l : List StoredRow) → cond (has_row_with key (decided_rows image stores sorted merge.decided)) None (newest_row l key) ≡ newest_row l key =
       λ key l. ap (λ n. cond (has_row_with key (decided_rows image stores sorted n)) None (newest_row l key)) none in
       let shown = read honest so_far.shape (was.gathered.slots inside) in
       let kept = waits_kept s image regions merge.store merge.slot row merge.waiting after within slot sound.hashes shown keeps
       (λ key. was.gathered.waits key ∙ first key (gathered_rows s image regions merge.store merge.slot)) in
       let moved : gathered_rows s image regions next.0 next.1 ≡ gathered_rows s image regions merge.store (merge.slot + 1) =
-      ap (λ (p : ℕ × ℕ). gathered_rows s image regions p.0 p.1) is
-      ∙ ap (λ (t : Shape). gathered_rows s image regions (slot_after merge.store merge.slot (4 * t.buckets)).0 (slot_after merge.store merge.slot (4 * t.buckets)).1) (sym so_far.shape)
-      ∙ next_gathered s image regions merge.store merge.slot within in
-      let same_next : slot_after merge.store merge.slot (4 * s.buckets) ≡ next = ap (λ (t : Shape). slot_after merge.store merge.slot (4 * t.buckets)) so_far.shape ∙ sym is in
-      let holds = input_next s regions image merge.store merge.slot merge.slots input some (long ∙ ap row_len (sym so_far.shape)) (was.gathered.slots inside) (subst (λ (t : Shape). HasTaken
-      input (input_after (eqb (merge.slot + 1) (4 * t.buckets)) (rows_bytes (rows_before s (get_or regions merge.store 0) image merge.slot)) (get_or merge.slots 0 []))) (sym so_far.shape)
-      (hashed (rows_bytes (rows_before s (get_or regions merge.store 0) image merge.slot)) (was.gathered.slots_hashed inside))) in
+      cc (so_far.shape, next_gathered s image regions merge.store merge.slot within) in
+      let same_next : slot_after merge.store merge.slot (4 * s.buckets) ≡ next = cc (so_far.shape) in
+      let holds = input_next s regions image merge.store merge.slot merge.slots input some (long ∙ ap row_len (sym so_far.shape)) (was.gathered.slots inside) (rw (←
+      so_far.shape) at (hashed (rows_bytes (rows_before s (get_or regions merge.store 0) image merge.slot)) (was.gathered.slots_hashed inside))) in
       record {
         gathered = record {
           most = was.gathered.most;
-          waits = λ key. kept key ∙ ap (λ l. newest_row l key) (sym moved) ∙ sym (first key (gathered_rows s image regions next.0 next.1));
+          waits = λ key. cc (kept key, first key (gathered_rows s image regions next.0 next.1));
           last = was.gathered.last;
-          slots = λ further. subst (λ (p : ℕ × ℕ). AreSlots s (get_or regions p.0 0) image p.1 (parts_after true merge.slots)) same_next (slots_next s regions image merge.store merge.slot
-              merge.slots (was.gathered.slots inside));
+          slots = λ further. rw same_next at (slots_next s regions image merge.store merge.slot merge.slots (was.gathered.slots inside));
           ahead = was.gathered.ahead;
           passes = was.gathered.passes;
-          slots_hashed = λ further. subst (λ (p : ℕ × ℕ). HasTaken input (rows_bytes (rows_before s (get_or regions p.0 0) image p.1))) same_next holds.1;
+          slots_hashed = λ further. rw same_next at holds.1;
           entries_hashed = λ past.
               let last : (slot_after merge.store merge.slot (4 * s.buckets)).0 ≡ merge.store + 1 = elim (after_last merge.store merge.slot (4 * s.buckets)) [
                 | inl it ↦ ap (λ (p : ℕ × ℕ). p.0) it

@@ -1,13 +1,8 @@
 -- What a step does that gathers a slot, and one that decides a key.
-use Rattle.silt_merge.proofs.Common.{◌≡◌, ℕ, ◌+◌, ◌*◌, ◌<◌, nat_lt, Bool, true, false, IsTrue, List, [], ◌++◌, length, get_or, Option, Some, None, Ok, Err, ◌⊎◌, inl, inr, refl, sym, subst}
-use Rattle.silt_merge.proofs.Common.{ap, arith, Content, Shape, entry_len, row_len, HashDigest, SortedDigest, Key, Row, IsRowAt, slot_row, HashState, SortedState, entries_of, Gathers}
-use Rattle.silt_merge.proofs.Common.{IsNextEntry, MatchesDigests, AreSound, HasMerged, AreEntries, AreSlots, parts_after, regions_of, IsHeldMerge, MergeState, ends_entries, ends_store}
-use Rattle.silt_merge.proofs.Common.{finding, input_after, is_behind, slot_after, source_at, TakesStep, Source, NoMemory, HasTaken, Taken}
-use Rattle.std.proofs.Common.{All, is_some, IsSomeAnd}
-use Rattle.silt_disk.specs.declared.disk.Disk.{Ghosts}
-use Rattle.silt_frame.specs.Rows.{row_of}
-use Rattle.silt_merge.specs.Comparing.{MayTake}
-use Rattle.silt_merge.specs.Steps.{GathersRow, damaged_place}
+use Rattle.silt_merge.proofs.Common.{◌≡◌, ℕ, ◌+◌, ◌*◌, ◌<◌, nat_lt, Bool, true, false, IsTrue, List, [], ◌++◌, length, get_or, Option, Some, None, Ok, Err, ◌⊎◌, inl, inr, refl, sym, subst, ap}
+use Rattle.silt_merge.proofs.Common.{arith, Content, Shape, entry_len, row_len, HashDigest, SortedDigest, Key, Row, IsRowAt, slot_row, HashState, SortedState, entries_of, Gathers, IsNextEntry}
+use Rattle.silt_merge.proofs.Common.{MatchesDigests, AreSound, HasMerged, AreEntries, AreSlots, parts_after, regions_of, IsHeldMerge, MergeState, ends_entries, ends_store, finding, input_after}
+use Rattle.silt_merge.proofs.Common.{is_behind, slot_after, source_at, TakesStep, Source, NoMemory, HasTaken, Taken, All, is_some, IsSomeAnd, Ghosts, row_of, MayTake, GathersRow, damaged_place}
 use Rattle.silt_merge.proofs.Comparing.{compared_key, compared_slot, entry_agrees, slot_agrees}
 use Rattle.silt_merge.proofs.Ending.{merged_behind, merged_noted}
 use Rattle.silt_merge.proofs.Pieces.{first_slot}
@@ -55,11 +50,11 @@ module _ {D F : Type 0} (facts : Ghosts D F) (stores : List HashState) (disk : D
         let taken : MergeState = record merge { store = next.0; slot = next.1; waiting = waiting; slots = parts_after true merge.slots; input = input } in
         let moved : MergeState = record taken { damaged = finding fits (HashDigest region) } in
         let further = slots_more merge.store merge.slot (4 * merge.shape.buckets) in
-        subst (λ (m : MergeState). TakesStep facts stores sorted digest disk disk merge m (Ok x)) (sym is) (went_on facts stores sorted digest disk merge moved x
-        (record { shape = refl; region = refl; stores = refl }) (subst IsHeldMerge is held_after) refl refl (omega (arith, further)) sound (λ was. merged_noted (facts.content disk) stores
-        sorted taken (finding fits (HashDigest region)) (gathered_step (facts.content disk) stores sorted merge row waiting next input held below some long hashed (λ honest same slots. shown
-        sorted.shape (get_or (regions_of stores) merge.store 0) (facts.content disk).shown slots) keeps refl was)) (compared_slot stores sorted digest merge fits (HashDigest region) sound
-        store next waiting (parts_after true merge.slots) input held below long here may hashed refl) (slot_finds region fits region_is may sorted digest))
+        subst (λ (m : MergeState). TakesStep facts stores sorted digest disk disk merge m (Ok x)) (sym is) (went_on facts stores sorted digest disk merge moved
+        x (record { shape = refl; region = refl; stores = refl }) (subst IsHeldMerge is held_after) refl refl (omega (arith, further)) sound (λ was.
+        merged_noted (facts.content disk) stores sorted taken (finding fits (HashDigest region)) (gathered_step (facts.content disk) stores sorted merge row
+        waiting next input held below some long hashed (search arith) keeps refl was)) (search (arith, compared_slot))
+        (slot_finds region fits region_is may sorted digest))
 
     -- it is that of the slot that the disk shows, if the merge goes on well
     shows_row : (sorted : SortedState) → HasMerged (facts.content disk) stores sorted merge → AreSound (facts.content disk).shown stores sorted → IsTrue (facts.content disk).honest

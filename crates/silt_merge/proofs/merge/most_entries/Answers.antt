@@ -1,6 +1,4 @@
-use Rattle.silt_merge.proofs.Common.{arith, rules}
-use Rattle.std.proofs.Common.{take_all}
-use Rattle.std.proofs.lemmas.List.Sums.{sum_by_more}
+use Rattle.silt_merge.proofs.Common.{arith, rules, take_all, sum_by_more}
 use Rattle.silt_merge.proofs.merge.most_entries.Goals as goal
 
 pub loop-store-preserved : goal.loop-store-preserved

@@ -1,5 +1,4 @@
-use Rattle.silt_merge.proofs.Common.{◌≡◌, ◌+◌, take}
-use Rattle.std.proofs.Common.{min, sum_by}
+use Rattle.silt_merge.proofs.Common.{◌≡◌, ◌+◌, take, min, sum_by}
 use Rattle.silt_merge.proofs.merge.most_entries.Given as goal
 
 -- one for each entry, and for each put of the stores so far

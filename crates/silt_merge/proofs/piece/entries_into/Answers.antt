@@ -1,5 +1,4 @@
-use Rattle.silt_merge.proofs.Common.{ℕ, ◌*◌, length, ap, ◌∙◌, arith, entry_len, entries_of, rules}
-use Rattle.std.proofs.Common.{length-take-le}
+use Rattle.silt_merge.proofs.Common.{ℕ, ◌*◌, length, ap, ◌∙◌, arith, entry_len, entries_of, rules, length-take-le}
 use Rattle.silt_merge.proofs.Pieces.{front_fits, holds_front}
 use Rattle.silt_merge.proofs.piece.entries_into.Goals as goal
 

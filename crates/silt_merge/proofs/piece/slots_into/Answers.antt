@@ -1,5 +1,4 @@
-use Rattle.silt_merge.proofs.Common.{ℕ, ◌*◌, ap, ◌∙◌, arith, row_len, rules}
-use Rattle.std.proofs.Common.{length-take-le}
+use Rattle.silt_merge.proofs.Common.{ℕ, ◌*◌, ap, ◌∙◌, arith, row_len, rules, length-take-le}
 use Rattle.silt_merge.proofs.Pieces.{front_fits, slots_front}
 use Rattle.silt_merge.proofs.piece.slots_into.Goals as goal
 

@@ -1,5 +1,4 @@
-use Rattle.silt_merge.proofs.Common.{Err, refl, ap, ◌∙◌, subst, HasMerged, IsHeldMerge, MergeState, TakesStep}
-use Rattle.silt_merge.specs.State.{ahead_without}
+use Rattle.silt_merge.proofs.Common.{Err, refl, ap, ◌∙◌, subst, HasMerged, IsHeldMerge, MergeState, TakesStep, ahead_without}
 use Rattle.silt_merge.proofs.Stepped.{read_and_failed, read_and_went, refused}
 use Rattle.silt_merge.proofs.merge.Merge.decide.Goals as goal
 

@@ -1,13 +1,9 @@
-use Rattle.silt_merge.proofs.Common.{◌≡◌, ◌++◌, ◌+◌, ◌*◌, ◌<◌, ◌||◌, ℕ, true, false, cond, nat_lt, Bool, IsTrue, List, [], Some, drop, get_or, length, take, inr, ap, refl, sym, ◌∙◌, arith}
-use Rattle.silt_merge.proofs.Common.{and_parts, ltb-true, Holds, Content, entry_len, SortedDigest, HashState, due_rows, is_written, sorted_rows, entries_of, IsNextEntry, ReadsRow}
-use Rattle.silt_merge.proofs.Common.{AreEntries, parts_after, regions_of, MergeState, ends_entries, finding, hashed_after, is_behind, passed_after, written_after, Choice, NoMemory, Source}
-use Rattle.std.proofs.Common.{All, take_at}
-use Rattle.silt_disk.proofs.Costs.{most_more}
-use Rattle.silt_merge.specs.Choice.{choice_puts}
-use Rattle.silt_merge.specs.declared.merge.StepError.TheVariants.{Read}
+use Rattle.silt_merge.proofs.Common.{◌≡◌, ◌++◌, ◌*◌, ◌<◌, ◌||◌, ℕ, true, false, cond, nat_lt, Bool, IsTrue, List, [], Some, drop, get_or, length, take, inr, ap, refl, sym, ◌∙◌, arith, and_parts}
+use Rattle.silt_merge.proofs.Common.{ltb-true, Holds, Content, entry_len, SortedDigest, HashState, due_rows, is_written, sorted_rows, entries_of, IsNextEntry, ReadsRow, AreEntries, regions_of}
+use Rattle.silt_merge.proofs.Common.{MergeState, ends_entries, finding, hashed_after, is_behind, written_after, Choice, NoMemory, Source, All, take_at, most_more, choice_puts, Read}
 use Rattle.silt_merge.proofs.Choosing.{offered}
 use Rattle.silt_merge.proofs.Comparing.{compared_key}
-use Rattle.silt_merge.proofs.Ending.{held_with, merged_noted, merged_step, next_puts, nothing_left, offered_inside, skipped_inside}
+use Rattle.silt_merge.proofs.Ending.{decided_to, held_with, merged_noted, merged_step, next_puts, nothing_left, offered_inside, skipped_inside}
 use Rattle.silt_merge.proofs.Keys.{count_written}
 use Rattle.silt_merge.proofs.Making.{made_added, one_most}
 use Rattle.silt_merge.proofs.Reading.{each_source}
@@ -94,7 +90,7 @@ returns-in-Err-index_key g c =
       λ was sound. inr (record {
         gathered = all;
         room = ltb-true merge.written merge.shape.sorted_capacity both.1;
-        puts = next_puts content _ _ merge _ _ _ c.next_entry-next.new.out c.read_row.new.out c.self.invariant.0 all c.first.ensures
+        puts = λ honest is sound. next_puts content _ _ merge c.self.invariant.0 all is honest sound _ _ _ c.next_entry-next.new.out c.read_row.new.out c.first.ensures
             (sym c.choose.ensures ∙ c.in-Some.is) c.next_entry-next.ensures.is_some next read both.0;
       }),
     ))
@@ -161,17 +157,8 @@ returns-in-Ok g c =
     let long : choice.passes ≡ true → length (get_or merge.ahead 0 []) ≡ entry_len merge.shape =
     λ passes. ap length (sym c.first-2.ensures.part) ∙ c.first-2.ensures.len (there (inside passes)) ∙ c.self.invariant.2 in
     let may = may_be _ _ _ _ _ _ _ _ (c.ends_entries-ends.ensures ∙ ap (λ b. ends_entries b merge.passed c.args.sorted.now.count) own) c.first-2.ensures.part refl c.may_take-fits.ensures in
-    let after : MergeState = record merge {
-      waiting = c.mark_decided.new.self.waiting;
-      passed = passed_after choice.passes merge.passed;
-      written = written_after due merge.written;
-      index = c.index_key.new.index;
-      decided = merge.decided + 1;
-      last = Some choice.key;
-      ahead = parts_after choice.passes merge.ahead;
-      input = c.mark_decided.new.self.input;
-      hasher = c.hash_entry.new.hasher;
-    } in
+    let after : MergeState =
+    decided_to merge choice c.mark_decided.new.self.waiting due c.index_key.new.index c.mark_decided.new.self.input c.hash_entry.new.hasher in
     let noted : MergeState = record after { damaged = finding fits SortedDigest } in
     let is : c.note-in-Ok.new.self ≡ noted = c.note-in-Ok.ensures.state
     ∙ ap (λ (m : MergeState). let r : MergeState = record m { damaged = finding fits SortedDigest } in r) c.mark_decided.ensures.state in

@@ -1,7 +1,4 @@
-use Rattle.silt_merge.proofs.Common.{ap, ◌∙◌, sym, subst, entries_of}
-use Rattle.silt_merge.specs.Merging.{IsMergeOf}
-use Rattle.silt_merge.specs.Rows.{sources}
-use Rattle.silt_merge.specs.State.{sorted_in}
+use Rattle.silt_merge.proofs.Common.{ap, ◌∙◌, sym, subst, entries_of, IsMergeOf, sources, sorted_in}
 use Rattle.silt_merge.proofs.Ending.{done_entries, done_merge}
 use Rattle.silt_merge.proofs.Viewing.{state_of}
 use Rattle.silt_merge.proofs.merge.Merge.into_store.Goals as goal

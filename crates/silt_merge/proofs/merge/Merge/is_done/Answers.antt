@@ -1,5 +1,4 @@
-use Rattle.silt_merge.proofs.Common.{ap, ◌∙◌, arith, MergeState}
-use Rattle.std.proofs.Common.{nat_le}
+use Rattle.silt_merge.proofs.Common.{ap, ◌∙◌, arith, MergeState, nat_le}
 use Rattle.silt_merge.proofs.Ending.{done_steps, entries_decide, not_decided, not_gathered}
 use Rattle.silt_merge.proofs.Viewing.{state_of}
 use Rattle.silt_merge.proofs.merge.Merge.is_done.Goals as goal

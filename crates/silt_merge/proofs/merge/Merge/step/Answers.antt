@@ -1,5 +1,4 @@
-use Rattle.silt_merge.proofs.Common.{◌≡◌, Some, ap, ◌∙◌, subst, IsHeldMerge, MergeState}
-use Rattle.silt_merge.specs.State.{oldest_stores}
+use Rattle.silt_merge.proofs.Common.{◌≡◌, Some, ap, ◌∙◌, subst, IsHeldMerge, MergeState, oldest_stores}
 use Rattle.silt_merge.proofs.Stepped.{refused_at_once}
 use Rattle.silt_merge.proofs.merge.Merge.step.Goals as goal
 

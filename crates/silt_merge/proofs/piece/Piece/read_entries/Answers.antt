@@ -1,6 +1,4 @@
-use Rattle.silt_merge.proofs.Common.{◌≡◌, ℕ, ◌++◌, List, length, take, drop, sym, subst, arith, entry_len, StoredRow, entries_of, AreEntries, parts_from}
-use Rattle.std.proofs.Common.{take_at}
-use Rattle.silt_sorted_store.specs.Indexing.{HoldsEntries}
+use Rattle.silt_merge.proofs.Common.{◌≡◌, ℕ, ◌++◌, List, length, take, drop, sym, subst, arith, entry_len, StoredRow, entries_of, AreEntries, parts_from, take_at, HoldsEntries}
 use Rattle.silt_merge.proofs.Pieces.{are_entries, part_count}
 use Rattle.silt_merge.proofs.piece.Piece.read_entries.Goals as goal
 

@@ -1,5 +1,4 @@
-use Rattle.silt_merge.proofs.Common.{◌≡◌, ℕ, ◌+◌, ◌*◌, ◌≤◌, ◌++◌, List, length, take, drop, ap, ◌∙◌, arith, Shape, row_len}
-use Rattle.std.proofs.Common.{take_at}
+use Rattle.silt_merge.proofs.Common.{◌≡◌, ℕ, ◌+◌, ◌*◌, ◌≤◌, ◌++◌, List, length, take, drop, ap, ◌∙◌, arith, Shape, row_len, take_at}
 use Rattle.silt_merge.proofs.Pieces.{are_slots, part_count}
 use Rattle.silt_merge.proofs.piece.Piece.read_slots.Goals as goal
 
