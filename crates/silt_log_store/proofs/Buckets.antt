@@ -1,8 +1,5 @@
 -- The bucket counts of a geometry are those of a table.
-use Rattle.std.proofs.Common.{◌≡◌, ℕ, Bool, true, false, ◌||◌, IsTrue, eqb, refl, sym, subst, lit≤}
-use Rattle.std.proofs.lemmas.Bool.{eqb-true}
-use Rattle.silt_disk.specs.Layout.{is_bucket_count}
-use Rattle.silt_cuckoo.specs.Slots.{IsBucketCount}
+use Rattle.silt_log_store.proofs.Common.{◌≡◌, ℕ, Bool, true, false, ◌||◌, IsTrue, eqb, refl, sym, subst, lit≤, eqb-true, is_bucket_count, IsBucketCount}
 
 -- one of the counts
 one : (count n : ℕ) → IsBucketCount count → eqb n count ≡ true → IsBucketCount n

@@ -1,12 +1,7 @@
 -- For the crates above: what calls on other parts of the disk leave of a log store, and how one store serves as another.
-use Rattle.std.proofs.Common.{◌≡◌, ℕ, ◌≤◌, IsTrue, sym, ◌∙◌, arith}
-use Rattle.silt_disk.specs.Disk.{ChangesWithin, Content, LiesOutside, size}
-use Rattle.silt_disk.specs.Layout.{device_size, commits_at, log_len}
+use Rattle.silt_log_store.proofs.Common.{◌≡◌, ℕ, ◌≤◌, IsTrue, sym, ◌∙◌, arith, ChangesWithin, Content, LiesOutside, size, device_size, commits_at, log_len, LogState, InBounds, all_rows}
+use Rattle.silt_log_store.proofs.Common.{log_rows_elsewhere, outside_bodies, rows_elsewhere, region_lies, LogStoreState, IsIndexed, IsFrozenStore}
 use Rattle.silt_log.specs.Rows.{row_at, rows_from}
-use Rattle.silt_log.specs.State.{LogState, InBounds, all_rows}
-use Rattle.silt_log.proofs.Elsewhere.{log_elsewhere, log_rows_elsewhere, outside_bodies, rows_elsewhere}
-use Rattle.silt_log.proofs.Exits.{region_lies}
-use Rattle.silt_log_store.specs.State.{LogStoreState, IsIndexed, IsLogStore, IsFrozenStore}
 use Rattle.silt_log_store.proofs.Exits.{index_kept}
 
 -- a change outside the region of a log leaves the rows that are shown
@@ -21,14 +16,6 @@ rows_outside old new log at count bounds fits outside changes honest =
 pub index_elsewhere : (old new : Content) (store : LogStoreState) (at count : ℕ) → IsIndexed old store → InBounds store.log
     → device_size store.log.shape ≤ size old → LiesOutside (commits_at store.log.shape store.log.region) (log_len store.log.shape) at count → ChangesWithin at count old new → IsIndexed new store
 index_elsewhere old new store at count index bounds fits outside changes = search (arith, index_kept, rows_outside)
-
--- a store that takes rows still matches the disk
-pub store_elsewhere : (old new : Content) (store : LogStoreState) (at count : ℕ) → IsLogStore old store → device_size store.log.shape ≤ size old
-    → size new ≡ size old → LiesOutside (commits_at store.log.shape store.log.region) (log_len store.log.shape) at count → ChangesWithin at count old new → IsLogStore new store
-store_elsewhere old new store at count is fits same outside changes = record {
-  log = (log_elsewhere old new store.log at count is.log fits same outside changes).stands;
-  index = index_elsewhere old new store at count is.index is.log.bounds fits outside changes;
-}
 
 -- so does a store that is only read
 pub frozen_elsewhere : (old new : Content) (store : LogStoreState) (at count : ℕ) → IsFrozenStore old store → InBounds store.log

@@ -1,10 +1,7 @@
 -- The first key of a log store with no rows.
-use Rattle.std.proofs.Common.{◌≡◌, ℕ, true, false, Option, Some, None, IsSome, option_map, refl, ap, ◌∙◌, arith}
-use Rattle.std.specs.Option.{is_some, option_and_then}
-use Rattle.silt_cuckoo.specs.Slots.{Entry, PlacesBelow, Slots, entry_at}
+use Rattle.silt_log_store.proofs.Common.{◌≡◌, ℕ, true, false, Option, Some, None, IsSome, option_map, refl, ap, ◌∙◌, arith, is_some, option_and_then, Entry, PlacesBelow, Slots, entry_at, Placing}
 use Rattle.silt_cuckoo.specs.Placing.{first_path, free_slot, path_for, placed, put_along, shortest_walk}
 use Rattle.silt_log_store.specs.Placement.{entered, entered_under}
-use Rattle.silt_log_store.specs.declared.placement.Placing.{Placing}
 
 -- a table with places of no rows has no entry
 no_entry : (table : Slots) (slot : ℕ) → PlacesBelow table 0 → entry_at table slot ≡ None

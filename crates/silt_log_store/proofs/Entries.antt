@@ -1,12 +1,6 @@
 -- The law of the entries of a table.
-use Rattle.std.proofs.Common.{◌≡◌, ℕ, ◌/◌, List, [], get_or, Some, option_map, ap}
-use Rattle.silt_cuckoo.specs.Slots.{Slots, Entry, entry_at, place_at}
-use Rattle.silt_cuckoo.specs.Pairs.{pair_of}
-use Rattle.silt_cuckoo.specs.Keys.{key_pair}
-use Rattle.silt_cuckoo.specs.Index.{Indexes}
-use Rattle.silt_cuckoo.proofs.Indexing.{index_law}
+use Rattle.silt_log_store.proofs.Common.{◌≡◌, ℕ, ◌/◌, List, [], get_or, Some, option_map, ap, Slots, Entry, entry_at, place_at, pair_of, key_pair, Indexes, index_law, holds_from_pair}
 use Rattle.silt_cuckoo.proofs.Placed.{table_pairs-held}
-use Rattle.silt_cuckoo.proofs.Places.{holds_from_pair}
 use Rattle.silt_log_store.specs.Laws.{HasEntries, TableEntryLaw}
 
 -- an entry's place is in the table

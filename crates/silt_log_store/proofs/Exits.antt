@@ -1,31 +1,16 @@
 -- The state at the exits of the calls of a log store.
-use Rattle.std.proofs.Common.{◌≡◌, ◌↔◌, ℕ, ◌+◌, ◌-◌, ◌<◌, ◌≤◌, true, false, List, [], ◌∷◌, ◌++◌, Option, Some, None, IsTrue, IsSome, IfSome, inl, inr, option_map, refl, sym, subst, ap, ◌∙◌}
-use Rattle.std.proofs.Common.{arith}
-use Rattle.std.specs.Option.{is_some, option_and_then}
-use Rattle.silt_disk.specs.Disk.{Content, ChangesWithin, size}
-use Rattle.silt_disk.specs.Layout.{device_size, commits_at}
-use Rattle.silt_frame.specs.declared.key.Key.{Key}
-use Rattle.silt_frame.specs.declared.key.Kind.{Kind}
-use Rattle.silt_cuckoo.specs.Slots.{Slots, IsBucketCount, IsTable, PlacesBelow, bucket_count, empty_slots}
-use Rattle.silt_cuckoo.specs.Keys.{first_bucket, second_bucket}
-use Rattle.silt_cuckoo.specs.Lookup.{candidates_of}
-use Rattle.silt_cuckoo.specs.Index.{Indexes, index_of_keys, indexed, placed_or_replaced}
+use Rattle.silt_log_store.proofs.Common.{◌≡◌, ◌↔◌, ℕ, ◌+◌, ◌-◌, ◌<◌, ◌≤◌, true, false, List, [], ◌∷◌, ◌++◌, Option, Some, None, IsTrue, IsSome, IfSome, inl, inr, option_map, refl, sym, subst, ap}
+use Rattle.silt_log_store.proofs.Common.{◌∙◌, arith, is_some, option_and_then, Content, ChangesWithin, size, device_size, commits_at, Key, Kind, Slots, IsBucketCount, bucket_count, empty_slots}
+use Rattle.silt_log_store.proofs.Common.{first_bucket, second_bucket, candidates_of, Indexes, index_of_keys, placed_or_replaced, index_law, stored_row, keys_of, puts_of, LogState, InBounds}
+use Rattle.silt_log_store.proofs.Common.{all_rows, all_count, region_lies, LogStoreState, IsHeldStore, IsIndexed, IsLogStore, FindsLast, IsFirstMatch, has_candidate, Placing}
+use Rattle.silt_cuckoo.specs.Index.{indexed}
 use Rattle.silt_cuckoo.specs.Placing.{placed}
-use Rattle.silt_cuckoo.proofs.Indexing.{index_law}
 use Rattle.silt_log.specs.Rows.{row_at, rows_from}
-use Rattle.silt_frame.specs.Rows.{stored_row, keys_of, puts_of}
-use Rattle.silt_log.specs.State.{LogState, InBounds, all_rows}
 use Rattle.silt_log.specs.Calls.{Empties, Appends, OpensSome}
-use Rattle.silt_log.proofs.Elsewhere.{all_count}
-use Rattle.silt_log.proofs.Exits.{region_lies}
 use Rattle.silt_log.proofs.Standing.{commits_torn_rows}
-use Rattle.silt_log_store.specs.State.{LogStoreState, IsHeldStore, IsIndexed, IsLogStore}
 use Rattle.silt_log_store.specs.Calls.{EmptiesStore, IsFullFor, IsPlacingFor, OpensSomeOfStore, TakesRow}
-use Rattle.silt_log_store.specs.LastRow.{FindsLast}
-use Rattle.silt_log_store.specs.Lookup.{IsFirstMatch, has_candidate}
 use Rattle.silt_log_store.specs.declared.lookup.Match.{Match}
 use Rattle.silt_log_store.specs.Placement.{HoldsIn, entered, entered_under}
-use Rattle.silt_log_store.specs.declared.placement.Placing.{Placing}
 use Rattle.silt_log_store.proofs.Finds.{standing_is, match_is_last, none_is_none, next_table}
 use Rattle.silt_log_store.proofs.Matches.{no_match}
 use Rattle.silt_log_store.proofs.Rows.{keys_count, keys_push, known_push, puts_push}
@@ -167,9 +152,3 @@ opens_some old new store log fits is changes opens =
       index = index_kept old new store _ changes.honest is.index refl refl (ap (λ (l : LogState). l.shape) opens.log) (λ honest. ap (all_rows new) opens.log ∙
           commits_leave_rows old new _ _ _ bounds fits (omega (arith, bounds.order, bounds.room)) changes honest);
     }
-
--- the invariant of every store holds after it took a row
-pub held_after : (store : LogStoreState) (log : LogState) (table : Slots) (puts place : ℕ) → IsHeldStore store → InBounds log
-    → log ≡ record store.log { used = store.log.used + 1 } → IsTable table → bucket_count table ≡ bucket_count store.table
-    → place ≡ store.log.used → PlacesBelow table (place + 1) → puts ≤ store.puts + 1 → IsHeldStore (record { log = log; table = table; puts = puts })
-held_after store log table puts place held bounds taken is_table count at below few = grind arith

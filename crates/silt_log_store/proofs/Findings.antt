@@ -1,13 +1,7 @@
 -- When there is no finding in a log.
-use Rattle.std.proofs.Common.{◌≡◌, ℕ, ◌+◌, ◌<◌, true, List, [], ◌∷◌, ◌++◌, length, take, drop, flat_map, refl, sym, ap, ◌∙◌, arith, take-append-drop}
-use Rattle.std.specs.List.{list_all, enumerate_from}
-use Rattle.std.proofs.lemmas.Bool.{and_parts, and_from}
-use Rattle.std.proofs.lemmas.List.{map-append, take_all}
-use Rattle.std.proofs.lemmas.List.Folds.{list_all-append}
-use Rattle.silt_disk.specs.Layout.{Shape}
-use Rattle.silt_frame.specs.Rows.{has_known_kind, StoredRow}
+use Rattle.silt_log_store.proofs.Common.{◌≡◌, ℕ, ◌+◌, ◌<◌, true, List, [], ◌∷◌, ◌++◌, length, take, drop, flat_map, refl, sym, ap, ◌∙◌, arith, take-append-drop, list_all, enumerate_from}
+use Rattle.silt_log_store.proofs.Common.{and_parts, and_from, map-append, take_all, list_all-append, Shape, has_known_kind, StoredRow, indexed_append, stays_none}
 use Rattle.silt_cuckoo.specs.Index.{indexed}
-use Rattle.silt_cuckoo.proofs.KeyIndex.{indexed_append, stays_none}
 use Rattle.silt_log.specs.Parts.{Part}
 use Rattle.silt_log_store.specs.Findings.{fits_table, log_findings, row_findings, LogSoundLaw}
 use Rattle.silt_event.proofs.Findings.{nothing_first, nothing_second, nothing_both, passes_where_nothing, nothing_where_passes}
@@ -45,8 +39,7 @@ last_fits : (shape : Shape) (part : Part) (k n : ℕ) (rows : List StoredRow) �
     → n ≡ k + length rows → 0 < length rows → fits_table shape (take n part.rows) ≡ true
 last_fits shape part k n [] none end some = absurd (omega arith)
 last_fits shape part k n (row ∷ []) none end some = grind arith
-last_fits shape part k n (row ∷ next ∷ rows) none end some =
-    last_fits shape part (k + 1) n (next ∷ rows) (nothing_second (row_findings shape part (k, row)) _ none) (omega arith) (omega arith)
+last_fits shape part k n (row ∷ next ∷ rows) none end some = last_fits shape part (k + 1) n (next ∷ rows) (nothing_second (row_findings shape part (k, row)) _ none) (omega arith) (omega arith)
 
 -- all have places
 all_fit : (shape : Shape) (part : Part) → flat_map (row_findings shape part) (enumerate_from 0 part.rows) ≡ [] → fits_table shape part.rows ≡ true

@@ -1,21 +1,9 @@
 -- What the first match means for the last row of a key.
-use Rattle.std.proofs.Common.{◌≡◌, ◌≢◌, ◌⊎◌, ℕ, zero, suc, ◌<◌, List, [], ◌∷◌, ◌++◌, length, get_or, Option, Some, None, option_map, inl, inr, refl, sym, subst, ap, ◌∙◌, arith}
-use Rattle.std.specs.Str.{bytes_eq}
-use Rattle.std.proofs.lemmas.Bool.{cases_Bool, cases_eq}
+use Rattle.silt_log_store.proofs.Common.{◌≡◌, ◌≢◌, ◌⊎◌, ℕ, zero, suc, ◌<◌, List, [], ◌∷◌, ◌++◌, length, get_or, Option, Some, None, option_map, inl, inr, refl, sym, subst, ap, ◌∙◌, arith}
+use Rattle.silt_log_store.proofs.Common.{bytes_eq, cases_Bool, cases_eq, Candidate, Slots, first_bucket, second_bucket, key_pair, candidates_of, IsNewest, Indexes, slot_of_key, index_of_keys}
+use Rattle.silt_log_store.proofs.Common.{placed_or_replaced, find_law, push_law, no_key, holds_from_pair, StoredRow, keys_of, FindsLast, IsFirstMatch, candidate_of}
 use Rattle.std.proofs.lemmas.Slice.Eq.{bytes_eq-Decides}
-use Rattle.silt_cuckoo.specs.declared.lookup.Candidate.{Candidate}
-use Rattle.silt_cuckoo.specs.Slots.{Slots}
-use Rattle.silt_cuckoo.specs.Keys.{first_bucket, second_bucket, key_pair}
-use Rattle.silt_cuckoo.specs.Lookup.{candidates_of}
-use Rattle.silt_cuckoo.specs.Index.{IsNewest, Indexes, slot_of_key, index_of_keys, placed_or_replaced}
-use Rattle.silt_cuckoo.proofs.Finding.{find_law}
-use Rattle.silt_cuckoo.proofs.KeyIndex.{push_law}
-use Rattle.silt_cuckoo.proofs.Indexing.{no_key}
 use Rattle.silt_cuckoo.proofs.Matching.{Stands, candidates_standing}
-use Rattle.silt_cuckoo.proofs.Places.{holds_from_pair}
-use Rattle.silt_frame.specs.Rows.{StoredRow, keys_of}
-use Rattle.silt_log_store.specs.LastRow.{FindsLast}
-use Rattle.silt_log_store.specs.Lookup.{IsFirstMatch, candidate_of}
 use Rattle.silt_log_store.specs.declared.lookup.Match.{Match}
 use Rattle.silt_log_store.proofs.Rows.{key_of_row, keys_count}
 use Rattle.silt_log_store.proofs.Searching.{found_passes, all_contained}

@@ -1,30 +1,13 @@
 -- A rebuild, row by row.
-use Rattle.std.proofs.Common.{◌≡◌, ℕ, ◌+◌, ◌<◌, ◌≤◌, false, List, [], ◌∷◌, ◌++◌, length, take, get_or, find, slice_get, Option, Some, None, IsTrue, IsSome, IfSome, option_map, sym, subst}
-use Rattle.std.proofs.Common.{ap, ◌∙◌, arith, length-append}
-use Rattle.std.specs.Option.{is_some}
-use Rattle.std.specs.Str.{bytes_eq}
-use Rattle.std.proofs.lemmas.List.{get_or-map}
-use Rattle.std.proofs.lemmas.Option.{get_or_from_slice_get, slice_get_within}
-use Rattle.silt_disk.specs.Disk.{Content, Rests}
+use Rattle.silt_log_store.proofs.Common.{◌≡◌, ℕ, ◌+◌, ◌<◌, ◌≤◌, false, List, [], ◌∷◌, ◌++◌, length, take, get_or, find, slice_get, Option, Some, None, IsTrue, IsSome, IfSome, option_map, sym}
+use Rattle.silt_log_store.proofs.Common.{subst, ap, ◌∙◌, arith, length-append, is_some, bytes_eq, get_or-map, get_or_from_slice_get, slice_get_within, Content, Rests, Shape, kind_of, Key, Kind}
+use Rattle.silt_log_store.proofs.Common.{Candidate, Slots, IsTable, IsBucketCount, PlacesBelow, bucket_count, empty_slots, entry_at, first_bucket, second_bucket, candidates_of, Indexes}
+use Rattle.silt_log_store.proofs.Common.{index_of_keys, placed_or_replaced, slot_of_key, index_law, find_law, has_known_kind, StoredRow, puts_of, LogState, InBounds, IsScanned, IsKeyIndex}
+use Rattle.silt_log_store.proofs.Common.{IsOfRows, AddsKey, IsHeldStore, IsFrozenStore}
 use Rattle.silt_disk.proofs.Images.{left_at_rest}
-use Rattle.silt_disk.specs.Layout.{Shape}
-use Rattle.silt_frame.specs.Frame.{kind_of}
-use Rattle.silt_frame.specs.declared.key.Key.{Key}
-use Rattle.silt_frame.specs.declared.key.Kind.{Kind}
-use Rattle.silt_cuckoo.specs.declared.lookup.Candidate.{Candidate}
-use Rattle.silt_cuckoo.specs.Slots.{Slots, IsTable, IsBucketCount, PlacesBelow, bucket_count, empty_slots, entry_at}
-use Rattle.silt_cuckoo.specs.Keys.{first_bucket, second_bucket}
-use Rattle.silt_cuckoo.specs.Lookup.{candidates_of}
-use Rattle.silt_cuckoo.specs.Index.{Indexes, index_of_keys, placed_or_replaced, slot_of_key}
-use Rattle.silt_cuckoo.proofs.Indexing.{index_law}
-use Rattle.silt_cuckoo.proofs.Finding.{find_law}
 use Rattle.silt_cuckoo.proofs.Search.{found_in_range}
 use Rattle.silt_log.specs.Rows.{row_at, row_head, first_rows, log_rows}
-use Rattle.silt_frame.specs.Rows.{has_known_kind, StoredRow, puts_of}
-use Rattle.silt_log.specs.State.{LogState, InBounds, IsScanned}
-use Rattle.silt_log_store.specs.Growth.{IsKeyIndex, IsOfRows, AddsKey}
 use Rattle.silt_log_store.specs.Rebuild.{IsSoundBefore, IsFirstDamaged, IsFirstCrowded, IsRebuilt, IsRefusedRebuild, has_known_kind_at}
-use Rattle.silt_log_store.specs.State.{IsHeldStore, IsFrozenStore}
 use Rattle.silt_log_store.specs.declared.index.KeyIndex.{KeyIndex}
 use Rattle.silt_log_store.specs.declared.rebuild.RebuildError.{RebuildError}
 use Rattle.silt_log_store.proofs.Exits.{index_none}

@@ -10,3 +10,4 @@ pub mod Replacing
 pub mod Rows
 pub mod Searching
 pub mod Findings
+pub mod Common

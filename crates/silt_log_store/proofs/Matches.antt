@@ -1,15 +1,7 @@
 -- A row whose head was read, and the key that is looked up.
-use Rattle.std.proofs.Common.{◌≡◌, ℕ, ◌+◌, ◌<◌, ◌==◌, not, Bool, true, false, List, [], ◌∷◌, get_or, length, Some, None, refl, sym, arith}
-use Rattle.std.specs.List.{list_all, AllWithin}
-use Rattle.std.specs.Str.{bytes_eq}
-use Rattle.silt_disk.specs.Disk.{Content}
-use Rattle.silt_frame.specs.Frame.{kind_byte}
-use Rattle.silt_frame.specs.declared.key.Kind.{Kind}
-use Rattle.silt_cuckoo.specs.declared.lookup.Candidate.{Candidate}
+use Rattle.silt_log_store.proofs.Common.{◌≡◌, ℕ, ◌+◌, ◌<◌, ◌==◌, not, Bool, true, false, List, [], ◌∷◌, get_or, length, Some, None, refl, sym, arith, list_all, AllWithin, bytes_eq, Content}
+use Rattle.silt_log_store.proofs.Common.{kind_byte, Kind, Candidate, has_known_kind, StoredRow, keys_of, LogState, all_rows, IsFirstMatch, kind_with_key, kind_for}
 use Rattle.silt_log.specs.Rows.{row_at, row_head}
-use Rattle.silt_frame.specs.Rows.{has_known_kind, StoredRow, keys_of}
-use Rattle.silt_log.specs.State.{LogState, all_rows}
-use Rattle.silt_log_store.specs.Lookup.{IsFirstMatch, kind_with_key, kind_for}
 use Rattle.silt_log_store.proofs.Rows.{row_there, key_there, known_there}
 use Rattle.silt_log_store.proofs.Searching.{find_first, find_nothing, same_default}
 

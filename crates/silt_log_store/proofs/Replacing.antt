@@ -1,8 +1,5 @@
 -- What a table is after a key's slot took a new place, and after its path was taken.
-use Rattle.std.proofs.Common.{ℕ, ◌+◌, arith}
-use Rattle.silt_cuckoo.specs.Slots.{Slots, IsTable, PlacesBelow}
-use Rattle.silt_cuckoo.specs.Pairs.{TakesSlot}
-use Rattle.silt_cuckoo.proofs.Places.{pair_held, holds_from_pair}
+use Rattle.silt_log_store.proofs.Common.{ℕ, ◌+◌, arith, Slots, IsTable, PlacesBelow, TakesSlot, pair_held, holds_from_pair}
 
 -- after a new place all are below the next bound
 pub replaced_below : (old new : Slots) (slot place : ℕ) → IsTable new → PlacesBelow old place → TakesSlot old new slot place → PlacesBelow new (place + 1)

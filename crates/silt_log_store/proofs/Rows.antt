@@ -1,20 +1,10 @@
 -- The rows of a log and their keys, by their numbers.
-use Rattle.std.proofs.Common.{◌≡◌, ℕ, ◌+◌, ◌<◌, ◌≤◌, Bool, true, List, [], ◌∷◌, ◌++◌, length, map, take, get_or, slice_get, Some, inl, inr, refl, sym, ap, ◌∙◌, arith}
-use Rattle.std.specs.List.{range_with_len, list_all}
-use Rattle.std.proofs.lemmas.Bool.{cases_Bool, false≢true}
-use Rattle.std.proofs.lemmas.List.{get_or-map, length-map, map_push}
-use Rattle.std.proofs.lemmas.List.Folds.{list_all_at, list_all-append}
+use Rattle.silt_log_store.proofs.Common.{◌≡◌, ℕ, ◌+◌, ◌<◌, ◌≤◌, Bool, true, List, [], ◌∷◌, ◌++◌, length, map, take, get_or, slice_get, Some, inl, inr, refl, sym, ap, ◌∙◌, arith, range_with_len}
+use Rattle.silt_log_store.proofs.Common.{list_all, cases_Bool, false≢true, get_or-map, length-map, map_push, list_all_at, list_all-append, slice_get-get_or, get_or_from_slice_get}
+use Rattle.silt_log_store.proofs.Common.{slice_get_within, Content, Shape, kind_of, Kind, has_known_kind, StoredRow, keys_of, put_count, puts_of, LogState, all_rows, all_count, row_of_all}
 use Rattle.std.proofs.lemmas.List.Sums.{sum_by-append}
 use Rattle.std.proofs.lemmas.List.FromFn.{map-range_with_len_more, take-map-range_with_len, length-map-range_with_len, get_or-map-range_with_len}
-use Rattle.std.proofs.lemmas.Option.{slice_get-get_or, get_or_from_slice_get, slice_get_within}
-use Rattle.silt_disk.specs.Disk.{Content}
-use Rattle.silt_disk.specs.Layout.{Shape}
-use Rattle.silt_frame.specs.Frame.{kind_of}
-use Rattle.silt_frame.specs.declared.key.Kind.{Kind}
 use Rattle.silt_log.specs.Rows.{row_at, rows_from, first_rows}
-use Rattle.silt_frame.specs.Rows.{has_known_kind, StoredRow, keys_of, put_count, puts_of}
-use Rattle.silt_log.specs.State.{LogState, all_rows}
-use Rattle.silt_log.proofs.Elsewhere.{all_count, row_of_all}
 
 -- a row and its key
 pub key_of_row : (rows : List StoredRow) (place : ℕ) (row : StoredRow) → slice_get rows place ≡ Some row → get_or (keys_of rows) place [] ≡ row.key

@@ -1,8 +1,6 @@
 -- The first element of a list that passes a test.
-use Rattle.std.proofs.Common.{◌≡◌, ℕ, zero, suc, ◌<◌, Bool, true, false, cond, List, [], ◌∷◌, length, get_or, find, Some, None, refl, sym, subst, ap, ◌∙◌, arith}
-use Rattle.std.specs.List.{All, AllWithin, Contains}
-use Rattle.std.proofs.lemmas.Bool.{cond-true, cond-false}
-use Rattle.std.proofs.lemmas.Option.{slice_get-get_or}
+use Rattle.silt_log_store.proofs.Common.{◌≡◌, ℕ, zero, suc, ◌<◌, Bool, true, false, cond, List, [], ◌∷◌, length, get_or, find, Some, None, refl, sym, subst, ap, ◌∙◌, arith, All, AllWithin}
+use Rattle.silt_log_store.proofs.Common.{Contains, cond-true, cond-false, slice_get-get_or}
 
 -- it is found if all before it fail
 pub find_first : {X : Type 0} (p : X → Bool) (xs : List X) (k : ℕ) (x d : X) → AllWithin (λ y. p y ≡ false) xs 0 k → k < length xs → get_or xs k d ≡ x → p x ≡ true → find p xs ≡ Some x

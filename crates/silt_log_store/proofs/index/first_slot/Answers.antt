@@ -1,4 +1,4 @@
-use Rattle.std.proofs.Common.{arith, rules}
+use Rattle.silt_log_store.proofs.Common.{arith, rules}
 use Rattle.silt_log_store.proofs.Searching.{find_first, find_nothing}
 use Rattle.silt_log_store.proofs.index.first_slot.Goals as goal
 

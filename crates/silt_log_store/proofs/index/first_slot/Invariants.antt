@@ -1,7 +1,4 @@
-use Rattle.std.proofs.Common.{◌≡◌, [], false, get_or}
-use Rattle.std.specs.List.{AllWithin}
-use Rattle.std.specs.Str.{bytes_eq}
-use Rattle.silt_cuckoo.specs.declared.lookup.Candidate.{Candidate}
+use Rattle.silt_log_store.proofs.Common.{◌≡◌, [], false, get_or, AllWithin, bytes_eq, Candidate}
 use Rattle.silt_log_store.proofs.index.first_slot.Given as goal
 
 abbrev pub invariant-loop-candidate : goal.invariant-loop-candidate

@@ -1,5 +1,4 @@
-use Rattle.std.proofs.Common.{ℕ, refl, arith, get_or, ◌∙◌}
-use Rattle.silt_cuckoo.specs.declared.lookup.Candidate.{Candidate}
+use Rattle.silt_log_store.proofs.Common.{ℕ, refl, arith, get_or, ◌∙◌, Candidate}
 use Rattle.silt_log_store.proofs.Matches.{match_found, passed_more, none_found}
 use Rattle.silt_log_store.proofs.lookup.first_match.Goals as goal
 
@@ -9,8 +8,8 @@ returns-in-Some-clause-first g c = λ honest known.
     let candidates = c.args.candidates.now in
     let default : Candidate = record { slot = 0; place = 0 } in
     let candidate : Candidate = get_or candidates c.loop-candidate.candidate-index default in
-    match_found content c.args.log.now candidates c.args.key.now.0 c.loop-candidate.candidate-index candidate default c.in-Some.kind
-    (c.loop-candidate.invariant.lack honest known) (omega arith) refl (c.requires.places c.loop-candidate.candidate-index default (omega arith)) (rw c.in-Some.is at (c.in_ok-kind.ensures.kind honest))
+    match_found content c.args.log.now candidates c.args.key.now.0 c.loop-candidate.candidate-index candidate default c.in-Some.kind (c.loop-candidate.invariant.lack honest known) (omega arith)
+    refl (c.requires.places c.loop-candidate.candidate-index default (omega arith)) (rw c.in-Some.is at (c.in_ok-kind.ensures.kind honest))
 
 pub loop-candidate-preserved : goal.loop-candidate-preserved
 loop-candidate-preserved g c = record {

@@ -1,8 +1,4 @@
-use Rattle.std.proofs.Common.{◌≡◌, true, false, IsTrue, length}
-use Rattle.std.specs.List.{list_all, AllWithin}
-use Rattle.silt_cuckoo.specs.declared.lookup.Candidate.{Candidate}
-use Rattle.silt_frame.specs.Rows.{has_known_kind}
-use Rattle.silt_log.specs.State.{all_rows}
+use Rattle.silt_log_store.proofs.Common.{◌≡◌, true, false, IsTrue, length, list_all, AllWithin, Candidate, has_known_kind, all_rows}
 use Rattle.silt_log_store.proofs.Matches.{has_key_at}
 use Rattle.silt_log_store.proofs.lookup.first_match.Given as goal
 

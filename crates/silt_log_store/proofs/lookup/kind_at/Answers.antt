@@ -1,5 +1,4 @@
-use Rattle.std.proofs.Common.{ap, ◌∙◌}
-use Rattle.silt_log_store.specs.Lookup.{kind_with_key}
+use Rattle.silt_log_store.proofs.Common.{ap, ◌∙◌, kind_with_key}
 use Rattle.silt_log_store.proofs.Matches.{kind_of_head}
 use Rattle.silt_log_store.proofs.lookup.kind_at.Goals as goal
 

@@ -1,5 +1,4 @@
-use Rattle.std.proofs.Common.{rules}
-use Rattle.silt_cuckoo.proofs.Places.{placed_below}
+use Rattle.silt_log_store.proofs.Common.{rules, placed_below}
 use Rattle.silt_log_store.proofs.Replacing.{replaced_below}
 use Rattle.silt_log_store.proofs.placement.enter.Goals as goal
 

@@ -1,4 +1,4 @@
-use Rattle.std.proofs.Common.{sym, ◌∙◌}
+use Rattle.silt_log_store.proofs.Common.{sym, ◌∙◌}
 use Rattle.silt_log_store.proofs.Growth.{row_damaged, row_crowded, row_added}
 use Rattle.silt_log_store.proofs.rebuild.add_row.Goals as goal
 

@@ -1,4 +1,4 @@
-use Rattle.std.proofs.Common.{arith, rules}
+use Rattle.silt_log_store.proofs.Common.{arith, rules}
 use Rattle.silt_log_store.proofs.Buckets.{bucket_count_is}
 use Rattle.silt_log_store.proofs.Growth.{rebuilt_held}
 use Rattle.silt_log_store.proofs.Rows.{rows_none}

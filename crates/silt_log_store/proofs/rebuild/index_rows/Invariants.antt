@@ -1,6 +1,5 @@
-use Rattle.std.proofs.Common.{IsTrue}
+use Rattle.silt_log_store.proofs.Common.{IsTrue, IsKeyIndexOf, IsOfRows}
 use Rattle.silt_log.specs.Rows.{first_rows}
-use Rattle.silt_log_store.specs.Growth.{IsKeyIndexOf, IsOfRows}
 use Rattle.silt_log_store.proofs.rebuild.index_rows.Given as goal
 
 abbrev pub invariant-loop-place : goal.invariant-loop-place

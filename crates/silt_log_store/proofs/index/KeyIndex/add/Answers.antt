@@ -1,6 +1,4 @@
-use Rattle.std.proofs.Common.{◌≡◌, ◌+◌, length, ap, sym, ◌∙◌}
-use Rattle.silt_cuckoo.specs.Slots.{bucket_count}
-use Rattle.silt_cuckoo.specs.Index.{slot_of_key}
+use Rattle.silt_log_store.proofs.Common.{◌≡◌, ◌+◌, length, ap, sym, ◌∙◌, bucket_count, slot_of_key}
 use Rattle.silt_log_store.proofs.Exits.{under_buckets}
 use Rattle.silt_log_store.proofs.Growth.{key_added, key_refused}
 use Rattle.silt_log_store.proofs.index.KeyIndex.add.Goals as goal

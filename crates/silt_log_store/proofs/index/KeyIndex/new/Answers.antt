@@ -1,6 +1,4 @@
-use Rattle.std.proofs.Common.{◌≡◌, ◌*◌, None, length, refl, ap, ◌∙◌, arith}
-use Rattle.std.proofs.lemmas.List.{length-replicate}
-use Rattle.silt_cuckoo.specs.Slots.{bucket_count, empty_slots}
+use Rattle.silt_log_store.proofs.Common.{◌≡◌, ◌*◌, None, length, refl, ap, ◌∙◌, arith, length-replicate, bucket_count, empty_slots}
 use Rattle.silt_log_store.proofs.Growth.{none_indexed}
 use Rattle.silt_log_store.proofs.index.KeyIndex.new.Goals as goal
 

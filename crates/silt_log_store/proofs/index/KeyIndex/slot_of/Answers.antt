@@ -1,4 +1,4 @@
-use Rattle.std.proofs.Common.{◌∙◌, arith, rules}
+use Rattle.silt_log_store.proofs.Common.{◌∙◌, arith, rules}
 use Rattle.silt_log_store.proofs.Growth.{index_below, slot_is, slot_stands}
 use Rattle.silt_log_store.proofs.index.KeyIndex.slot_of.Goals as goal
 

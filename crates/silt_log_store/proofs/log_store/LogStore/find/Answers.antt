@@ -1,5 +1,4 @@
-use Rattle.std.proofs.lemmas.Grind.{common_steps}
-use Rattle.std.proofs.Common.{arith}
+use Rattle.silt_log_store.proofs.Common.{common_steps, arith}
 use Rattle.silt_log_store.proofs.Exits.{find_some, find_none}
 use Rattle.silt_log_store.proofs.log_store.LogStore.find.Goals as goal
 

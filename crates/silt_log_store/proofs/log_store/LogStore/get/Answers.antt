@@ -1,4 +1,4 @@
-use Rattle.std.proofs.Common.{arith, rules}
+use Rattle.silt_log_store.proofs.Common.{arith, rules}
 use Rattle.silt_log_store.proofs.Exits.{find_no_candidate}
 use Rattle.silt_log_store.proofs.log_store.LogStore.get.Goals as goal
 

@@ -1,6 +1,4 @@
-use Rattle.std.proofs.lemmas.Grind.{common_steps}
-use Rattle.std.proofs.Common.{arith}
-use Rattle.std.proofs.lemmas.Result.{err_from_is_err_and}
+use Rattle.silt_log_store.proofs.Common.{common_steps, arith, err_from_is_err_and}
 use Rattle.silt_log_store.proofs.Exits.{opens_some}
 use Rattle.silt_log_store.proofs.log_store.LogStore.open_commits.Goals as goal
 

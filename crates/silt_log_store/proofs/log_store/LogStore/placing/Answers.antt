@@ -1,6 +1,5 @@
-use Rattle.std.proofs.Common.{◌≡◌, ◌<◌, None, ◌∙◌, arith}
+use Rattle.silt_log_store.proofs.Common.{◌≡◌, ◌<◌, None, ◌∙◌, arith, bucket_count}
 use Rattle.std.proofs.lemmas.Bool.Decides.{nat_tests}
-use Rattle.silt_cuckoo.specs.Slots.{bucket_count}
 use Rattle.silt_log_store.proofs.Emptied.{first_planned}
 use Rattle.silt_log_store.proofs.Exits.{placing_found, placing_none, under_buckets}
 use Rattle.silt_log_store.proofs.log_store.LogStore.placing.Goals as goal

@@ -1,7 +1,4 @@
-use Rattle.std.proofs.lemmas.Grind.{common_steps}
-use Rattle.std.proofs.Common.{ap, ◌∙◌, arith, rules}
-use Rattle.std.proofs.lemmas.Result.{err_from_is_err_and}
-use Rattle.silt_log.specs.State.{LogState}
+use Rattle.silt_log_store.proofs.Common.{common_steps, ap, ◌∙◌, arith, rules, err_from_is_err_and, LogState}
 use Rattle.silt_log_store.proofs.Growth.{rebuilt_is, rebuilt_frozen, rebuild_refused}
 use Rattle.silt_log_store.proofs.log_store.LogStore.rebuild.Goals as goal
 

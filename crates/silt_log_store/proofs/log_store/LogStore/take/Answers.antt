@@ -1,4 +1,4 @@
-use Rattle.std.proofs.Common.{rules}
+use Rattle.silt_log_store.proofs.Common.{rules}
 use Rattle.silt_disk.proofs.Wrote.{wrote_refused}
 use Rattle.silt_log_store.proofs.log_store.LogStore.take.Goals as goal
 

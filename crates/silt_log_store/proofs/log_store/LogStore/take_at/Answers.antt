@@ -1,5 +1,4 @@
-use Rattle.std.proofs.Common.{◌+◌, ap}
-use Rattle.silt_log_store.specs.State.{LogStoreState, IsLogStore}
+use Rattle.silt_log_store.proofs.Common.{◌+◌, ap, LogStoreState, IsLogStore}
 use Rattle.silt_log_store.proofs.Exits.{takes_row}
 use Rattle.silt_log_store.proofs.log_store.LogStore.take_at.Goals as goal
 
