@@ -1,20 +1,11 @@
 -- The bytes of the rows in slots, as a hasher is fed them.
-use Rattle.std.proofs.Common.{◌≡◌, ℕ, zero, suc, ◌+◌, ◌*◌, ◌≤◌, ◌<◌, Result, Ok, Err, OnOk, List, [], ◌++◌, length, take, drop, slice_range, refl, sym, subst, ap, ◌∙◌, arith, append_assoc}
-use Rattle.std.proofs.Common.{append-nil}
-use Rattle.std.proofs.lemmas.List.{take_all}
-use Rattle.std.proofs.lemmas.List.Edits.{length-between}
-use Rattle.std.proofs.Math.Nat.{add-mul}
+use Rattle.silt_hash_store.proofs.Common.{◌≡◌, ℕ, zero, suc, ◌+◌, ◌*◌, ◌≤◌, ◌<◌, Result, Ok, Err, OnOk, List, [], ◌++◌, length, take, drop, slice_range, refl, sym, subst, ap, ◌∙◌, arith}
+use Rattle.silt_hash_store.proofs.Common.{append_assoc, append-nil, take_all, length-between, add-mul, Holds, Shape, hash_at, row_len, slots_len, StoredRow, row_bytes, rows_bytes, HashBytesLaw}
+use Rattle.silt_hash_store.proofs.Common.{IsFed, HoldsSlots, slot_row, HashState, body_before}
 use Rattle.std.proofs.Math.Seq.{take-add}
-use Rattle.sha1.specs.Sha1.{Holds}
 use Rattle.sha1.specs.declared.Sha1.{Sha1}
-use Rattle.silt_disk.specs.Layout.{Shape, hash_at, row_len, slots_len}
-use Rattle.silt_frame.specs.Rows.{StoredRow, row_bytes, rows_bytes}
 use Rattle.silt_frame.proofs.RowBytes.{row_bytes_of, rows_bytes_more}
-use Rattle.silt_hash_store.specs.Laws.{HashBytesLaw}
-use Rattle.silt_hash_store.specs.Rebuild.{IsFed}
-use Rattle.silt_hash_store.specs.Slots.{HoldsSlots, rows_before, slot_row}
-use Rattle.silt_hash_store.specs.State.{HashState}
-use Rattle.silt_log.proofs.Bodies.{body_before}
+use Rattle.silt_hash_store.specs.Slots.{rows_before}
 use Rattle.silt_hash_store.proofs.Reading.{slots_read}
 use Rattle.silt_hash_store.proofs.Slotting.{all_before, before_more}
 

@@ -1,17 +1,6 @@
 -- Slots that were read together.
-use Rattle.std.proofs.Common.{◌≡◌, ℕ, ◌+◌, ◌*◌, ◌<◌, ◌≤◌, IsTrue, IfErr, Result, false, List, ◌++◌, length, take, drop, slice_range, arith, length-append}
-use Rattle.std.proofs.lemmas.List.{take-append-drop}
-use Rattle.silt_disk.specs.Disk.{Content}
-use Rattle.silt_disk.specs.Layout.{Shape, row_len}
-use Rattle.silt_frame.specs.Rows.{row_of}
-use Rattle.silt_hash_store.specs.Rebuild.{HasHead, IsFirstUnsound, IsGrown}
-use Rattle.silt_log.specs.Scans.{IsScanRefused}
-use Rattle.silt_hash_store.specs.Slots.{HeadSays, HoldsSlots, is_sound_slot}
-use Rattle.silt_hash_store.specs.State.{HashState, IsTagged}
-use Rattle.silt_hash_store.specs.declared.region.Head.{Head}
-use Rattle.silt_log.specs.declared.scan.ScanError.{ScanError}
-use Rattle.silt_log.specs.declared.scan.ScanError.TheVariants.{Damaged, Device, NoMemory}
-use Rattle.silt_hash_store.specs.declared.rebuild.Rebuilt.{Rebuilt}
+use Rattle.silt_hash_store.proofs.Common.{◌≡◌, ℕ, ◌+◌, ◌*◌, ◌<◌, IsTrue, IfErr, Result, false, List, slice_range, arith, Content, Shape, row_len, row_of, HasHead, IsFirstUnsound, IsGrown}
+use Rattle.silt_hash_store.proofs.Common.{IsScanRefused, HeadSays, HoldsSlots, is_sound_slot, HashState, IsTagged, Head, ScanError, Damaged, Device, NoMemory, Rebuilt}
 use Rattle.silt_hash_store.proofs.Growing.{refused_at}
 
 -- the head of one of them is that of its slot
@@ -57,11 +46,3 @@ refused_later content rebuilt s region slot given Starts error same number grown
 pub refused_all : {F : Type 0} (given : F → Type 0) (Honest Starts : Type 0) (IsFirst : ℕ → Type 0) (error : ScanError F) → (Honest → Starts)
     → IsScanRefused (λ at. Honest → Starts → IsFirst at) given error → IsScanRefused (λ at. Honest → IsFirst at) given error
 refused_all given Honest Starts IsFirst error starts refused = grind arith
-
--- a buffer that has room for `most` of them has room for fewer
-pub chunk_fits : (next most len room : ℕ) → next ≤ most → most * len ≤ room → next * len ≤ room
-chunk_fits next most len room fewer fits = grind arith
-
--- what is read over the front of a buffer leaves its length
-pub written_back : (new old : List ℕ) (n : ℕ) → length new ≡ length (take n old) → length (new ++ drop n old) ≡ length old
-written_back new old n long = cc (length-append new (drop n old), length-append (take n old) (drop n old), take-append-drop n old)

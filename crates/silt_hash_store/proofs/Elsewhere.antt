@@ -1,13 +1,9 @@
 -- What calls on other parts of the disk leave of a hash store.
-use Rattle.std.proofs.Common.{◌≡◌, ℕ, ◌+◌, ◌*◌, ◌≤◌, ◌<◌, IsTrue, List, length, sym, ap, ◌∙◌, inl, inr, arith}
-use Rattle.silt_disk.specs.Disk.{LiesOutside, Torn, size}
-use Rattle.silt_disk.specs.Layout.{Shape, device_size, commits_at, hash_at, log_len, row_len, slots_len}
+use Rattle.silt_hash_store.proofs.Common.{◌≡◌, ℕ, ◌+◌, ◌*◌, ◌≤◌, ◌<◌, IsTrue, List, length, sym, ap, ◌∙◌, inl, inr, arith, LiesOutside, Torn, size, Shape, device_size, commits_at, hash_at}
+use Rattle.silt_hash_store.proofs.Common.{log_len, row_len, slots_len, row_of, hash_rows, hash_slot_at, map_range_same, HashElsewhereLaw}
 use Rattle.silt_disk.proofs.Images.{torn_slice_after, torn_slice_before}
 use Rattle.silt_disk.proofs.Regions.{regions_apart}
-use Rattle.silt_frame.specs.Rows.{row_of}
-use Rattle.silt_hash_store.specs.Slots.{hash_rows, rows_before, hash_slot_at, slot_row}
-use Rattle.silt_log.proofs.Bodies.{map_range_same}
-use Rattle.silt_hash_store.specs.Laws.{HashElsewhereLaw}
+use Rattle.silt_hash_store.specs.Slots.{rows_before, slot_row}
 use Rattle.silt_hash_store.proofs.Reading.{slot_inside}
 use Rattle.silt_hash_store.proofs.Slotting.{all_before}
 

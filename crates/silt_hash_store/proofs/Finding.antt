@@ -1,17 +1,8 @@
 -- The row of a key among the slots of its two buckets.
-use Rattle.std.proofs.Common.{◌≡◌, ℕ, ◌<◌, false, List, length, get_or, Option, Some, None, Result, Ok, Err, IfOk, ap, ◌∙◌, arith}
-use Rattle.std.proofs.lemmas.Bool.{cases_Bool, cases_lt, and_parts, cond-true, cond-false, eqb-true, or_cases, or_parts}
-use Rattle.std.proofs.lemmas.List.Elements.{All-from_get_or}
-use Rattle.std.proofs.lemmas.List.Folds.{list_any_none}
-use Rattle.std.proofs.lemmas.Slice.Eq.{bytes_eq-Decides}
-use Rattle.silt_cuckoo.specs.Keys.{first_bucket, second_bucket}
-use Rattle.silt_frame.specs.declared.key.Kind.{Kind}
+use Rattle.silt_hash_store.proofs.Common.{◌≡◌, ℕ, ◌<◌, false, List, length, get_or, Option, Some, None, Result, Ok, Err, IfOk, ap, ◌∙◌, arith, cases_Bool, cases_lt, and_parts, cond-true}
+use Rattle.silt_hash_store.proofs.Common.{cond-false, eqb-true, or_cases, or_parts, All-from_get_or, list_any_none, bytes_eq-Decides, first_bucket, second_bucket, Kind, has_tag_of, is_row_of}
+use Rattle.silt_hash_store.proofs.Common.{rows_before, slot_row, StoredRow, Found, FindsIn, FindsRow, MatchesKey, MatchesTag, HashState, IsTagged}
 use Rattle.silt_hash_store.specs.Findings.{holds_key}
-use Rattle.silt_hash_store.specs.Slots.{has_tag_of, is_row_of, rows_before, slot_row}
-use Rattle.silt_frame.specs.Rows.{StoredRow}
-use Rattle.silt_log.specs.declared.found.Found.{Found}
-use Rattle.silt_hash_store.specs.Lookup.{FindsIn, FindsRow, MatchesKey, MatchesTag}
-use Rattle.silt_hash_store.specs.State.{HashState, IsTagged}
 use Rattle.silt_hash_store.proofs.Marking.{lacks_tag}
 use Rattle.silt_hash_store.proofs.Slotting.{before_at, before_count, before_there, sound_parts, tag_known}
 

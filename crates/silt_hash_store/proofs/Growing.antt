@@ -1,41 +1,23 @@
 -- A rebuild, slot by slot, and the findings in a hash region.
-use Rattle.std.proofs.Common.{◌≡◌, ℕ, zero, suc, ◌+◌, ◌*◌, ◌<◌, eqb, Bool, true, false, not, cond, IsTrue, List, [], ◌∷◌, ◌++◌, length, filter, flat_map, take, get_or, slice_get, slice_set}
-use Rattle.std.proofs.Common.{replicate, Option, Some, None, inl, inr, refl, sym, subst, ap, ◌∙◌, arith, length-append, append-nil, get_or-set_other, get_or-set_same}
-use Rattle.std.specs.List.{enumerate_from}
-use Rattle.std.specs.Option.{is_some}
-use Rattle.std.proofs.lemmas.Bool.{and_from, cases_eq}
-use Rattle.std.proofs.lemmas.List.{get_or_past}
-use Rattle.std.proofs.lemmas.List.Elements.{filter-append}
-use Rattle.std.proofs.lemmas.List.Folds.{list_any_at}
+use Rattle.silt_hash_store.proofs.Common.{◌≡◌, ℕ, zero, suc, ◌+◌, ◌*◌, ◌<◌, eqb, Bool, true, false, not, cond, IsTrue, List, [], ◌∷◌, ◌++◌, length, filter, flat_map, take, get_or, slice_get}
+use Rattle.silt_hash_store.proofs.Common.{slice_set, rules, replicate, Option, Some, None, inl, inr, refl, sym, subst, ap, ◌∙◌, arith, length-append, append-nil, get_or-set_other, get_or-set_same}
+use Rattle.silt_hash_store.proofs.Common.{enumerate_from, is_some, and_from, cases_eq, get_or_past, filter-append, list_any_at, get_or_from_slice_get, slice_get_within, bytes_eq-Decides, sha1}
+use Rattle.silt_hash_store.proofs.Common.{Content, Shape, kind_byte, kind_of, Kind, put_count, has_known_kind, StoredRow, puts_of, rows_bytes, has_tag_of, hash_part, hash_rows, is_row_of}
+use Rattle.silt_hash_store.proofs.Common.{is_sound_slot, slot_row, slot_tag, Found, FindsRow, AddsSound, IsFirstUnsound, IsGrown, IsRebuiltHash, TagsKey, TakesAdded, IsScanRefused, HashState}
+use Rattle.silt_hash_store.proofs.Common.{IsHashStore, IsHeldHash, IsTagged, ScanError, Damaged, Rebuilt}
 use Rattle.std.proofs.lemmas.List.Sums.{sum_by-append}
-use Rattle.std.proofs.lemmas.Option.{get_or_from_slice_get, slice_get_within}
-use Rattle.std.proofs.lemmas.Slice.Eq.{bytes_eq-Decides}
-use Rattle.sha1.specs.Sha1.{sha1}
-use Rattle.silt_disk.specs.Disk.{Content}
-use Rattle.silt_disk.specs.Layout.{Shape}
-use Rattle.silt_frame.specs.Frame.{kind_byte, kind_of}
-use Rattle.silt_frame.specs.declared.key.Kind.{Kind}
 use Rattle.silt_frame.specs.declared.key.Kind.TheVariants.{Put, Delete}
 use Rattle.silt_event.specs.Findings.{finding_if}
 use Rattle.silt_hash_store.specs.Findings.{hash_findings, holds_key, is_sound_hash_slot, slot_findings}
-use Rattle.silt_frame.specs.Rows.{put_count, has_known_kind, StoredRow, puts_of, rows_bytes}
 use Rattle.silt_log.specs.Parts.{Part}
-use Rattle.silt_hash_store.specs.Slots.{has_tag_of, hash_part, hash_rows, is_row_of, is_sound_slot, rows_before, slot_row, slot_tag}
+use Rattle.silt_hash_store.specs.Slots.{rows_before}
 use Rattle.silt_event.specs.declared.damage.Finding.{Finding}
-use Rattle.silt_event.specs.declared.damage.Finding.TheVariants as finding
 use Rattle.silt_event.specs.declared.place.Place.TheVariants.{Hash}
 use Rattle.silt_event.proofs.Findings.{nothing_both, nothing_first, nothing_second, nothing_where_passes, passes_where_nothing}
-use Rattle.silt_log.specs.declared.found.Found.{Found}
 use Rattle.silt_log.proofs.KindBytes.{kind_of_byte}
-use Rattle.silt_hash_store.specs.Lookup.{FindsRow}
-use Rattle.silt_hash_store.specs.Rebuild.{AddsSound, IsFirstUnsound, IsGrown, IsRebuiltHash, TagsKey, TakesAdded}
-use Rattle.silt_log.specs.Scans.{IsScanRefused}
-use Rattle.silt_hash_store.specs.State.{HashState, IsHashStore, IsHeldHash, IsTagged}
-use Rattle.silt_log.specs.declared.scan.ScanError.{ScanError}
-use Rattle.silt_log.specs.declared.scan.ScanError.TheVariants.{Damaged}
-use Rattle.silt_hash_store.specs.declared.rebuild.Rebuilt.{Rebuilt}
 use Rattle.silt_hash_store.proofs.Finding.{untagged_none}
 use Rattle.silt_hash_store.proofs.Slotting.{all_before, before_count, before_more, before_taken, before_there, empty_not_known, sound_known, tag_empty, tag_known, unsound_twice}
+use Rattle.silt_event.specs.declared.damage.Finding.TheVariants as finding
 
 -- ---- findings
 
@@ -54,14 +36,12 @@ nothing_from s part k (row ∷ rows) sound =
 -- if there is no finding, all are sound
 pub sound_from : (s : Shape) (part : Part) (k : ℕ) (rows : List StoredRow) → flat_map (slot_findings s part) (enumerate_from k rows) ≡ []
     → (i : ℕ) (row : StoredRow) → slice_get rows i ≡ Some row → is_sound_hash_slot s part.rows (k + i) row ≡ true
-sound_from s part k [] none i row there = absurd (cc)
-sound_from s part k (first ∷ rows) none zero row there = search (arith, passes_where_nothing, nothing_first)
-sound_from s part k (first ∷ rows) none (suc i) row there =
-    search (
-      arith,
-      sound_from s part (k + 1) rows (nothing_second (slot_findings s part (k, first)) (flat_map (slot_findings s part) (enumerate_from (k + 1) rows)) none) i row there,
-      nothing_second,
-    )
+sound_from s part k (first ∷ rows) none (suc i) row there = search (
+  arith,
+  sound_from s part (k + 1) rows (nothing_second (slot_findings s part (k, first)) (flat_map (slot_findings s part) (enumerate_from (k + 1) rows)) none) i row there,
+  nothing_second,
+)
+sound_from s part k rows none i row there = search (rules, arith, passes_where_nothing, nothing_first)
 
 -- the first of what comes behind nothing
 first_behind : {X : Type 0} (xs ys : List X) (x : X) → xs ≡ [] → slice_get ys 0 ≡ Some x → slice_get (xs ++ ys) 0 ≡ Some x
@@ -200,14 +180,12 @@ row_charge Delete row e = ap (λ n. 0 + cond (eqb n 1) 1 0) (sym e)
 -- the store of one slot more
 pub slot_taken : (old new : Rebuilt) (image : List ℕ) (slot : ℕ) (added : Option (Kind × ℕ)) → slot < 4 * old.store.shape.buckets → length old.store.tags ≡ 4 * old.store.shape.buckets
     → IsGrown old image slot → AddsSound old.store image slot added → TakesAdded slot added old new → IsGrown new image (slot + 1)
-slot_taken old new image slot None below long is adds takes =
-    search (arith, known_more, none_kept, empty_not_known, append-nil, cases_eq, tag_empty, is.tagged.sound, is.tagged.later, is.tagged.tagged)
+slot_taken old new image slot None below long is adds takes = search (arith, known_more, none_kept, empty_not_known, append-nil, cases_eq, tag_empty)
 slot_taken old new image slot (Some (kind, tag)) below long is adds takes =
     let row : StoredRow = slot_row old.store.shape old.store.region image slot in
     let known : has_known_kind row ≡ true = head_known row kind adds.adds.0 in
     let before : List StoredRow = filter has_known_kind (rows_before old.store.shape old.store.region image slot) in
-    let kept : filter has_known_kind (rows_before old.store.shape old.store.region image (slot + 1)) ≡ before ++ row ∷ [] =
-    search (arith, known_more, one_kept) in
+    let kept : filter has_known_kind (rows_before old.store.shape old.store.region image (slot + 1)) ≡ before ++ row ∷ [] = search (arith, known_more, one_kept) in
     let tags : List (Option ℕ) = slice_set old.store.tags slot (Some tag) in
     subst (λ (r : Rebuilt). IsGrown r image (slot + 1)) (sym takes) (record {
       tagged = record {

@@ -6,3 +6,4 @@ pub mod Growing
 pub mod Marking
 pub mod Reading
 pub mod Slotting
+pub mod Common

@@ -1,13 +1,8 @@
 -- Stored tags and their meaning.
-use Rattle.std.proofs.Common.{◌≡◌, ℕ, zero, suc, ◌+◌, ◌-◌, ◌*◌, ◌≤◌, ◌<◌, eqb, Bool, true, false, ◌||◌, List, ◌∷◌, length, get_or, map, replicate, slice_set, slice_range, Option, Some, None}
-use Rattle.std.proofs.Common.{refl, sym, ap, ◌∙◌, arith}
-use Rattle.std.proofs.lemmas.Bool.{cases_Bool, cond-true, cond-false, eq-eqb, eqb-true, ne_eqb}
-use Rattle.std.proofs.lemmas.List.{get_or-map, map-set}
-use Rattle.std.proofs.lemmas.List.Edits.{get_or-between}
-use Rattle.std.proofs.lemmas.List.Folds.{list_any_at}
-use Rattle.std.proofs.lemmas.List.FromFn.{get_or-range_with_len}
-use Rattle.std.specs.List.{range_with_len}
-use Rattle.silt_hash_store.specs.Slots.{bucket_has_tag, is_tag, slot_tag, tag_seen}
+use Rattle.silt_hash_store.proofs.Common.{◌≡◌, ℕ, zero, suc, ◌+◌, ◌-◌, ◌*◌, ◌≤◌, ◌<◌, eqb, Bool, true, false, ◌||◌, List, ◌∷◌, length, get_or, map, replicate, slice_set, slice_range, Option, Some}
+use Rattle.silt_hash_store.proofs.Common.{None, refl, sym, ap, ◌∙◌, arith, cases_Bool, cond-true, cond-false, eq-eqb, eqb-true, ne_eqb, get_or-map, map-set, get_or-between, list_any_at}
+use Rattle.silt_hash_store.proofs.Common.{get_or-range_with_len, range_with_len, is_tag, slot_tag, tag_seen}
+use Rattle.silt_hash_store.specs.Slots.{bucket_has_tag}
 
 -- slots without a tag
 pub none_seen : (n : ℕ) → map tag_seen (replicate n 65535) ≡ replicate n None

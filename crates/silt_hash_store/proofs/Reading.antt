@@ -1,16 +1,9 @@
 -- What reads and writes of a slot give, and which slots a write leaves.
-use Rattle.std.proofs.Common.{◌≡◌, ◌≢◌, ℕ, ◌+◌, ◌*◌, ◌≤◌, ◌<◌, inl, inr, IsTrue, List, length, take, drop, get_or, slice_range, sym, ap, ◌∙◌, arith}
-use Rattle.std.proofs.lemmas.Bool.{cases_lt}
-use Rattle.std.proofs.lemmas.List.Edits.{get_or-between}
-use Rattle.std.proofs.Math.Nat.{add-mul, mul-le-mul_right}
-use Rattle.silt_disk.specs.Disk.{Content, Torn, Writes, size}
-use Rattle.silt_disk.specs.Layout.{Shape, hash_at, row_len}
+use Rattle.silt_hash_store.proofs.Common.{◌≡◌, ◌≢◌, ℕ, ◌+◌, ◌*◌, ◌≤◌, ◌<◌, inl, inr, IsTrue, List, length, take, drop, get_or, slice_range, sym, ap, ◌∙◌, arith, cases_lt, get_or-between, add-mul}
+use Rattle.silt_hash_store.proofs.Common.{mul-le-mul_right, Content, Torn, Writes, size, Shape, hash_at, row_len, row_of, body_before, HeadSays, HoldsSlots, hash_slot_at, Head}
 use Rattle.silt_disk.proofs.Images.{splice_slice, torn_slice_after, torn_slice_before}
-use Rattle.silt_frame.specs.Rows.{row_of}
-use Rattle.silt_log.proofs.Bodies.{body_before}
 use Rattle.silt_log.proofs.Parts.{drop_front, slice_of_slice, slice_to_end}
-use Rattle.silt_hash_store.specs.Slots.{HeadSays, HoldsSlots, hash_slot_at, slot_row}
-use Rattle.silt_hash_store.specs.declared.region.Head.{Head}
+use Rattle.silt_hash_store.specs.Slots.{slot_row}
 
 -- a slot lies within its region
 pub slot_inside : (s : Shape) (region slot end : ℕ) → hash_at s region + 4 * s.buckets * row_len s ≤ end → slot < 4 * s.buckets → hash_slot_at s region slot + row_len s ≤ end
@@ -51,8 +44,7 @@ value_read s region slot at count image bytes here fits long read = grind (arith
 -- slots that are read together lie within the device
 pub slots_within : (s : Shape) (region slot count at n end : ℕ) → hash_at s region + 4 * s.buckets * row_len s ≤ end
     → slot + count ≤ 4 * s.buckets → at ≡ hash_slot_at s region slot → n ≡ count * row_len s → at + n ≤ end
-slots_within s region slot count at n end fits within here long =
-    omega (arith, fits, mul-le-mul_right (row_len s) within, add-mul slot count (row_len s), here, long)
+slots_within s region slot count at n end fits within here long = omega (arith, fits, mul-le-mul_right (row_len s) within, add-mul slot count (row_len s), here, long)
 
 -- and hold their rows
 pub slots_read : (s : Shape) (region slot count at n : ℕ) (image bytes : List ℕ) → at ≡ hash_slot_at s region slot → n ≡ count * row_len s

@@ -1,17 +1,11 @@
 -- When a slot is sound, and what its head means for that.
-use Rattle.std.proofs.Common.{◌≡◌, ◌≢◌, ℕ, ◌+◌, ◌*◌, ◌≤◌, ◌<◌, ◌==◌, true, false, List, [], ◌∷◌, ◌++◌, length, take, get_or, slice_get, Some, None, refl, ap, ◌∙◌, arith}
-use Rattle.std.specs.Option.{is_some}
-use Rattle.std.proofs.lemmas.Bool.{cases_Bool, cond-true, cond-false, eq-eqb, eqb-true, ne_eqb}
-use Rattle.std.proofs.lemmas.List.FromFn.{get_or-map-range_with_len, length-map-range_with_len, map-range_with_len_more, take-map-range_with_len}
-use Rattle.std.proofs.lemmas.Option.{slice_get-get_or}
-use Rattle.silt_cuckoo.specs.Keys.{first_bucket, second_bucket}
+use Rattle.silt_hash_store.proofs.Common.{◌≡◌, ℕ, ◌+◌, ◌*◌, ◌≤◌, ◌<◌, ◌==◌, true, false, List, [], ◌∷◌, ◌++◌, length, take, get_or, slice_get, Some, None, refl, ap, ◌∙◌, arith, is_some}
+use Rattle.silt_hash_store.proofs.Common.{cases_Bool, cond-true, cond-false, eq-eqb, eqb-true, get_or-map-range_with_len, length-map-range_with_len, map-range_with_len_more}
+use Rattle.silt_hash_store.proofs.Common.{take-map-range_with_len, slice_get-get_or, first_bucket, second_bucket, Shape, hash_at, row_len, kind_of, tag_of, has_known_kind, StoredRow}
 use Rattle.silt_cuckoo.specs.Placing.{other_bucket}
-use Rattle.silt_disk.specs.Layout.{Shape, hash_at, row_len}
-use Rattle.silt_frame.specs.Frame.{kind_of}
 use Rattle.silt_hash_store.specs.Findings.{holds_key, is_in_bucket, is_sound_hash_slot}
-use Rattle.silt_hash_store.specs.Slots.{hash_rows, rows_before, slot_row, tag_of}
+use Rattle.silt_hash_store.specs.Slots.{hash_rows, rows_before, slot_row}
 use Rattle.silt_log.specs.Rows.{body_row}
-use Rattle.silt_frame.specs.Rows.{has_known_kind, StoredRow}
 
 -- ---- the rows of a region
 
@@ -75,10 +69,6 @@ module _ (s : Shape) (rows : List StoredRow) (slot : ℕ) (row : StoredRow) wher
   -- so is one with a row of a known kind in its key's buckets that no earlier slot has
   pub sound_known : has_known_kind row ≡ true → is_in_bucket s slot row.key ≡ true → holds_key row.key (take slot rows) ≡ false → is_sound_hash_slot s rows slot row ≡ true
   sound_known known inside alone = rw (known_not_empty row known, known, inside, alone) refl
-
-  -- and no other
-  pub unsound_kind : kind_of row.kind ≡ None → row.kind ≢ 0 → is_sound_hash_slot s rows slot row ≡ false
-  unsound_kind unknown some = grind (arith, ne_eqb)
 
   pub unsound_bucket : has_known_kind row ≡ true → is_in_bucket s slot row.key ≡ false → is_sound_hash_slot s rows slot row ≡ false
   unsound_bucket known outside = rw (known_not_empty row known, known, outside) refl

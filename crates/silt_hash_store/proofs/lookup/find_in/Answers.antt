@@ -1,6 +1,4 @@
-use Rattle.std.proofs.Common.{◌≡◌, ℕ, Some, false, inl, inr, subst, ◌∙◌, arith}
-use Rattle.std.proofs.lemmas.Bool.{cases_lt}
-use Rattle.silt_hash_store.specs.Slots.{is_row_of, slot_row, slot_tag}
+use Rattle.silt_hash_store.proofs.Common.{◌≡◌, ℕ, Some, false, inl, inr, subst, ◌∙◌, arith, cases_lt, is_row_of, slot_row, slot_tag}
 use Rattle.silt_hash_store.proofs.lookup.find_in.Goals as goal
 
 pub loop-slot-preserved : goal.loop-slot-preserved
@@ -10,9 +8,8 @@ loop-slot-preserved g c = record {
     | inl before ↦ c.loop-slot.invariant.lack honest slot low before tagged
     | inr here ↦
         let same : c.loop-slot.slot ≡ slot = omega arith in
-        subst (λ (n : ℕ). slot_tag c.args.tags.now n ≡ Some c.args.sought.tag
-        → is_row_of c.args.sought.key.0 (slot_row c.args.region.now.geometry c.args.region.now.number (g.D.Disk.content c.args.disk.now).shown n) ≡ false)
-        same (rw c.in_default.is at (c.in_ok-kind.ensures.matches honest)) tagged
+        subst (λ (n : ℕ). slot_tag c.args.tags.now n ≡ Some c.args.sought.tag → is_row_of c.args.sought.key.0 (slot_row c.args.region.now.geometry c.args.region.now.number (g.D.Disk.content
+        c.args.disk.now).shown n) ≡ false) same (rw c.in_default.is at (c.in_ok-kind.ensures.matches honest)) tagged
   ];
 }
 

@@ -1,5 +1,4 @@
-use Rattle.std.proofs.Common.{◌≡◌, ℕ, ◌*◌, ◌≤◌, ◌<◌, false, IsTrue, Some, length}
-use Rattle.silt_hash_store.specs.Slots.{is_row_of, slot_row, slot_tag}
+use Rattle.silt_hash_store.proofs.Common.{◌≡◌, ℕ, ◌*◌, ◌≤◌, ◌<◌, false, IsTrue, Some, length, is_row_of, slot_row, slot_tag}
 use Rattle.silt_hash_store.proofs.lookup.find_in.Given as goal
 
 -- the buffer keeps its length, and the slots that were passed have no row of the key

@@ -1,7 +1,5 @@
-use Rattle.std.proofs.Common.{◌≡◌, Some, sym, ◌∙◌, arith}
+use Rattle.silt_hash_store.proofs.Common.{◌≡◌, Some, sym, ◌∙◌, arith, StoredRow, slot_row, slot_tag}
 use Rattle.std.proofs.lemmas.Grind.{common_steps}
-use Rattle.silt_frame.specs.Rows.{StoredRow}
-use Rattle.silt_hash_store.specs.Slots.{slot_row, slot_tag}
 use Rattle.silt_hash_store.proofs.Finding.{tag_matches}
 use Rattle.silt_hash_store.proofs.lookup.match_at.Goals as goal
 

@@ -1,11 +1,5 @@
-use Rattle.std.proofs.Common.{◌≡◌, ◌*◌, ℕ, IsTrue, None, replicate, refl, sym, ap, subst, ◌∙◌, arith}
-use Rattle.std.proofs.lemmas.Result.{err_from_is_err_and}
-use Rattle.sha1.specs.Sha1.{sha1}
-use Rattle.silt_disk.specs.Layout.{Shape}
-use Rattle.silt_frame.specs.Rows.{rows_bytes}
-use Rattle.silt_hash_store.specs.Slots.{rows_before}
-use Rattle.silt_hash_store.specs.Rebuild.{IsFirstUnsound, IsGrown, IsRebuiltHash}
-use Rattle.silt_hash_store.specs.declared.rebuild.Rebuilt.{Rebuilt}
+use Rattle.silt_hash_store.proofs.Common.{◌≡◌, ◌*◌, ℕ, IsTrue, None, replicate, refl, sym, ap, subst, ◌∙◌, arith, err_from_is_err_and, sha1, Shape, rows_bytes, rows_before, IsFirstUnsound}
+use Rattle.silt_hash_store.proofs.Common.{IsGrown, IsRebuiltHash, Rebuilt}
 use Rattle.silt_hash_store.proofs.Chunks.{refused_all}
 use Rattle.silt_hash_store.proofs.Growing.{all_grown, grown_digested, none_grown}
 use Rattle.silt_hash_store.proofs.rebuild.rebuild_region.Goals as goal

@@ -1,7 +1,4 @@
-use Rattle.std.proofs.Common.{Some, refl, ap, subst}
-use Rattle.silt_disk.specs.Layout.{Shape}
-use Rattle.silt_hash_store.specs.Rebuild.{TagsKey}
-use Rattle.silt_hash_store.specs.State.{HashState}
+use Rattle.silt_hash_store.proofs.Common.{Some, refl, ap, subst, Shape, TagsKey, HashState}
 use Rattle.silt_hash_store.proofs.Growing.{adds_row, twice_unsound}
 use Rattle.silt_hash_store.proofs.hash_store.HashStore.examine_row.Goals as goal
 

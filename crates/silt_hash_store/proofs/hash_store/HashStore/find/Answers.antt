@@ -1,5 +1,4 @@
-use Rattle.std.proofs.Common.{◌*◌}
-use Rattle.silt_hash_store.specs.State.{HashState}
+use Rattle.silt_hash_store.proofs.Common.{◌*◌, HashState}
 use Rattle.silt_hash_store.proofs.Finding.{weaker_ok}
 use Rattle.silt_hash_store.proofs.Growing.{found_in_all, tagged_all}
 use Rattle.silt_hash_store.proofs.hash_store.HashStore.find.Goals as goal

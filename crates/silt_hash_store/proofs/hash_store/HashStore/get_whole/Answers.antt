@@ -1,5 +1,4 @@
-use Rattle.std.proofs.Common.{◌*◌, Some, None}
-use Rattle.silt_hash_store.specs.State.{HashState}
+use Rattle.silt_hash_store.proofs.Common.{◌*◌, Some, None, HashState}
 use Rattle.silt_hash_store.proofs.Growing.{found_in_all, tagged_all}
 use Rattle.silt_hash_store.proofs.hash_store.HashStore.get_whole.Goals as goal
 

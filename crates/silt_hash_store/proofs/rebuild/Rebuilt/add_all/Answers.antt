@@ -1,6 +1,4 @@
-use Rattle.std.proofs.Common.{◌≡◌, ℕ, refl, subst, arith}
-use Rattle.std.proofs.lemmas.Result.{err_from_is_err_and}
-use Rattle.silt_hash_store.specs.Rebuild.{IsFed, IsGrown}
+use Rattle.silt_hash_store.proofs.Common.{◌≡◌, ℕ, refl, subst, arith, err_from_is_err_and, IsFed, IsGrown}
 use Rattle.silt_hash_store.proofs.Bytes.{none_fed}
 use Rattle.silt_hash_store.proofs.Chunks.{refused_later}
 use Rattle.silt_hash_store.proofs.rebuild.Rebuilt.add_all.Goals as goal
@@ -25,9 +23,8 @@ returns-clause-ok g c = λ honest is.
 pub returns-in_err-add_read-clause-err : goal.returns-in_err-add_read-clause-err
 returns-in_err-add_read-clause-err g c =
     let refused = err_from_is_err_and c.from_residual.result c.from_residual.ensures.1 in
-    rw (refused.1, refused.2) (refused_later (g.D.Disk.content c.args.disk.now) c.loop-slot.self c.args.self.now.store.shape
-    c.args.self.now.store.region c.loop-slot.slot _ _ c.in_err-add_read.field-0.0
-    c.loop-slot.invariant.shape c.loop-slot.invariant.number c.loop-slot.invariant.grown c.in_err-add_read.ensures.err)
+    rw (refused.1, refused.2) (refused_later (g.D.Disk.content c.args.disk.now) c.loop-slot.self c.args.self.now.store.shape c.args.self.now.store.region c.loop-slot.slot _ _
+    c.in_err-add_read.field-0.0 c.loop-slot.invariant.shape c.loop-slot.invariant.number c.loop-slot.invariant.grown c.in_err-add_read.ensures.err)
 
 pub returns-clause-digest : goal.returns-clause-digest
 returns-clause-digest g c = λ honest.

@@ -1,5 +1,4 @@
-use Rattle.std.proofs.Common.{◌≡◌, ◌-◌, ◌≤◌, IsTrue, length}
-use Rattle.silt_hash_store.specs.Rebuild.{IsFed, IsGrown}
+use Rattle.silt_hash_store.proofs.Common.{◌≡◌, ◌-◌, ◌≤◌, IsTrue, length, IsFed, IsGrown}
 use Rattle.silt_hash_store.proofs.rebuild.Rebuilt.add_all.Given as goal
 
 -- the slots so far were taken

@@ -1,6 +1,4 @@
-use Rattle.std.proofs.Common.{◌≡◌, ℕ, ◌+◌, subst, ◌∙◌, refl, arith}
-use Rattle.std.proofs.lemmas.Result.{err_from_is_err_and}
-use Rattle.silt_hash_store.specs.Rebuild.{IsGrown}
+use Rattle.silt_hash_store.proofs.Common.{◌≡◌, ℕ, ◌+◌, subst, ◌∙◌, refl, arith, err_from_is_err_and, IsGrown}
 use Rattle.silt_hash_store.proofs.Chunks.{head_held, refused_in}
 use Rattle.silt_hash_store.proofs.rebuild.Rebuilt.add_slots.Goals as goal
 
@@ -43,9 +41,7 @@ returns-in_err-add_slot-clause-err g c =
     let old = c.args.self.now in
     let content = g.D.Disk.content c.args.disk.now in
     let refused = err_from_is_err_and c.from_residual.result c.from_residual.ensures.1 in
-    rw (refused.1, refused.2) (refused_in content c.loop-i.self old.store.shape old.store.region (c.args.first + i) c.head_in-head.result
-    _ _ _ c.in_err-add_slot.field-0.0 c.loop-i.invariant.shape c.loop-i.invariant.number
-    (omega (arith, c.loop-i-test.true, c.requires.within.0))
-    (λ honest holds. head_held old.store.shape old.store.region c.args.first c.args.count c.args.len i content.shown c.args.bytes.now
-    c.loop-i.self.store c.head_in-head.result c.loop-i.invariant.shape c.loop-i.invariant.number c.requires.len c.loop-i-test.true holds c.head_in-head.ensures)
+    rw (refused.1, refused.2) (refused_in content c.loop-i.self old.store.shape old.store.region (c.args.first + i) c.head_in-head.result _ _ _ c.in_err-add_slot.field-0.0 c.loop-i.invariant.shape
+    c.loop-i.invariant.number (omega (arith, c.loop-i-test.true, c.requires.within.0)) (λ honest holds. head_held old.store.shape old.store.region c.args.first c.args.count c.args.len i
+    content.shown c.args.bytes.now c.loop-i.self.store c.head_in-head.result c.loop-i.invariant.shape c.loop-i.invariant.number c.requires.len c.loop-i-test.true holds c.head_in-head.ensures)
     c.loop-i.invariant.grown c.in_err-add_slot.ensures.err)

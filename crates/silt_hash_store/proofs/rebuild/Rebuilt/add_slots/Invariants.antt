@@ -1,6 +1,4 @@
-use Rattle.std.proofs.Common.{◌≡◌, ◌+◌, ◌≤◌, IsTrue}
-use Rattle.silt_hash_store.specs.Rebuild.{IsGrown}
-use Rattle.silt_hash_store.specs.Slots.{HoldsSlots}
+use Rattle.silt_hash_store.proofs.Common.{◌≡◌, ◌+◌, ◌≤◌, IsTrue, IsGrown, HoldsSlots}
 use Rattle.silt_hash_store.proofs.rebuild.Rebuilt.add_slots.Given as goal
 
 -- the slots so far were taken

@@ -1,4 +1,4 @@
-use Rattle.std.proofs.Common.{arith}
+use Rattle.silt_hash_store.proofs.Common.{arith}
 use Rattle.silt_hash_store.proofs.Reading.{head_read}
 use Rattle.silt_hash_store.proofs.region.HashRegion.read_head.Goals as goal
 

@@ -1,4 +1,4 @@
-use Rattle.std.proofs.Common.{arith}
+use Rattle.silt_hash_store.proofs.Common.{arith}
 use Rattle.silt_hash_store.proofs.Reading.{value_read}
 use Rattle.silt_hash_store.proofs.region.HashRegion.read_value.Goals as goal
 

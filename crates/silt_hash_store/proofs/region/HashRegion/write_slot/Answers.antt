@@ -1,4 +1,4 @@
-use Rattle.std.proofs.Common.{arith}
+use Rattle.silt_hash_store.proofs.Common.{arith}
 use Rattle.silt_disk.proofs.Wrote.{write_wrote, wrote_at, wrote_err, wrote_ok}
 use Rattle.silt_hash_store.proofs.Reading.{slot_written}
 use Rattle.silt_hash_store.proofs.region.HashRegion.write_slot.Goals as goal
@@ -14,6 +14,5 @@ returns-clause-wrote g c =
     wrote_ok c.in_ok-write.was (wrote_at c.slot_at.ensures.value c.requires.row wrote)
 
 pub returns-clause-written : goal.returns-clause-written
-returns-clause-written g c = λ honest.
-    slot_written c.args.self.now.geometry c.args.self.now.number c.args.slot _ _ _ _ c.slot_at.ensures.value c.requires.row
+returns-clause-written g c = λ honest. slot_written c.args.self.now.geometry c.args.self.now.number c.args.slot _ _ _ _ c.slot_at.ensures.value c.requires.row
     (omega (arith, c.slot_at.ensures.fits, c.requires.size)) c.in_ok-write.ensures.written honest

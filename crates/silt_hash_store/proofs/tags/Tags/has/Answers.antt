@@ -1,6 +1,4 @@
-use Rattle.std.proofs.Common.{◌≡◌, length, sym, ◌∙◌, ap, arith}
-use Rattle.std.proofs.lemmas.List.{length-map}
-use Rattle.silt_hash_store.specs.Slots.{bucket_has_tag, tag_seen}
+use Rattle.silt_hash_store.proofs.Common.{◌≡◌, length, sym, ◌∙◌, ap, arith, length-map, bucket_has_tag, tag_seen}
 use Rattle.silt_hash_store.proofs.Marking.{has_tag_in}
 use Rattle.silt_hash_store.proofs.tags.Tags.has.Goals as goal
 

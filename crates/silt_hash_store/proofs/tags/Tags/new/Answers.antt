@@ -1,5 +1,4 @@
-use Rattle.std.proofs.Common.{rules, ◌≡◌, replicate, map, ap, ◌∙◌}
-use Rattle.silt_hash_store.specs.Slots.{tag_seen}
+use Rattle.silt_hash_store.proofs.Common.{rules, ◌≡◌, replicate, map, ap, ◌∙◌, tag_seen}
 use Rattle.silt_hash_store.proofs.Marking.{none_seen}
 use Rattle.silt_hash_store.proofs.tags.Tags.new.Goals as goal
 

@@ -1,4 +1,4 @@
-use Rattle.std.proofs.Common.{Some, slice_set, ap, ◌∙◌, arith}
+use Rattle.silt_hash_store.proofs.Common.{Some, slice_set, ap, ◌∙◌, arith}
 use Rattle.silt_hash_store.proofs.Marking.{tag_set}
 use Rattle.silt_hash_store.proofs.tags.Tags.set.Goals as goal
 
