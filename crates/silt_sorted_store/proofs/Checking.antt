@@ -1,15 +1,10 @@
 -- A walk over the keys of entries: the findings so far, and which keys the index has.
-use Rattle.std.proofs.Common.{◌≡◌, ℕ, ◌+◌, ◌-◌, ◌<◌, Bool, true, false, not, List, [], ◌∷◌, ◌++◌, length, take, slice_get, Option, Some, None, inl, inr, refl, ap, ◌∙◌, arith}
-use Rattle.std.proofs.lemmas.Bool.{cases_lt}
-use Rattle.std.proofs.lemmas.List.{length-map, take_all, take_more}
-use Rattle.silt_frame.specs.Rows.{StoredRow, keys_of}
-use Rattle.silt_frame.specs.declared.key.Key.{Key}
+use Rattle.silt_sorted_store.proofs.Common.{◌≡◌, ℕ, ◌+◌, ◌-◌, ◌<◌, Bool, true, false, not, List, [], ◌∷◌, ◌++◌, length, take, slice_get, Option, Some, None, inl, inr, refl, ap, ◌∙◌, arith}
+use Rattle.silt_sorted_store.proofs.Common.{cases_lt, length-map, take_all, take_more, StoredRow, keys_of, Key, nothing_where_passes, IsIndexing, IsKeyBefore}
 use Rattle.silt_sorted_store.specs.Findings.{entry_findings, is_key_below, sorted_findings}
 use Rattle.silt_event.specs.Findings.{finding_if}
 use Rattle.silt_event.specs.declared.damage.Finding.{Finding}
-use Rattle.silt_event.proofs.Findings.{nothing_where_passes}
 use Rattle.silt_sorted_store.specs.Rebuild.{IsFirstOutOfOrder}
-use Rattle.silt_sorted_store.specs.Indexing.{IsIndexing, IsKeyBefore}
 use Rattle.silt_sorted_store.proofs.Ranges.{none_of_all, first_of_range}
 use Rattle.silt_sorted_store.proofs.Rising.{key_at}
 use Rattle.silt_trie.specs.Building.{Building, IsBuildingOf, is_above}

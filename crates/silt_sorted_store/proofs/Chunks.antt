@@ -1,12 +1,6 @@
 -- The keys of entries that were read together.
-use Rattle.std.proofs.Common.{◌≡◌, ℕ, ◌+◌, ◌*◌, ◌<◌, ◌≤◌, List, ◌++◌, length, take, drop, slice_range, sym, ap, ◌∙◌, arith, length-append}
-use Rattle.std.proofs.lemmas.List.{take-append-drop}
-use Rattle.std.proofs.Math.Nat.{add-mul, mul-le-mul_right}
-use Rattle.silt_disk.specs.Layout.{Shape, device_size, entry_len}
-use Rattle.silt_frame.specs.Rows.{StoredRow}
-use Rattle.silt_sorted_store.specs.State.{sorted_rows, sorted_entry_at}
-use Rattle.silt_log.proofs.Parts.{slice_of_slice}
-use Rattle.silt_sorted_store.specs.Indexing.{HoldsEntries, HoldsKeys}
+use Rattle.silt_sorted_store.proofs.Common.{◌≡◌, ℕ, ◌+◌, ◌*◌, ◌<◌, ◌≤◌, List, ◌++◌, length, take, drop, slice_range, sym, ap, ◌∙◌, arith, length-append, take-append-drop, add-mul}
+use Rattle.silt_sorted_store.proofs.Common.{mul-le-mul_right, Shape, device_size, entry_len, StoredRow, sorted_rows, sorted_entry_at, slice_of_slice, HoldsEntries, HoldsKeys}
 use Rattle.silt_sorted_store.proofs.Entries.{entry_read, key_read, part_inside}
 use Rattle.silt_sorted_store.proofs.Elsewhere.{entries_inside}
 use Rattle.silt_sorted_store.proofs.Rising.{key_at}

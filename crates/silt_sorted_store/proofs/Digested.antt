@@ -1,15 +1,9 @@
 -- The bytes of entries, which are digested.
-use Rattle.std.proofs.Common.{◌≡◌, ℕ, zero, suc, ◌+◌, ◌-◌, ◌*◌, ◌≤◌, List, [], ◌∷◌, ◌++◌, length, take, drop, slice_range, refl, sym, ap, ◌∙◌, arith, append_assoc, append-nil, take-add}
-use Rattle.std.proofs.lemmas.List.{take_all, take_more}
+use Rattle.silt_sorted_store.proofs.Common.{◌≡◌, ℕ, zero, suc, ◌+◌, ◌-◌, ◌*◌, ◌≤◌, List, [], ◌∷◌, ◌++◌, length, take, drop, slice_range, refl, sym, ap, ◌∙◌, arith, append_assoc, append-nil}
+use Rattle.silt_sorted_store.proofs.Common.{take-add, take_all, take_more, get_or_from_slice_get, slice_get_within, add-mul, entry_len, sorted_at, StoredRow, entries_bytes, entry_row}
+use Rattle.silt_sorted_store.proofs.Common.{HoldsEntries, EntriesBytesLaw, sorted_rows}
 use Rattle.std.proofs.lemmas.List.Edits.{length-between}
-use Rattle.std.proofs.lemmas.Option.{get_or_from_slice_get, slice_get_within}
-use Rattle.std.proofs.Math.Nat.{add-mul}
-use Rattle.silt_disk.specs.Layout.{entry_len, sorted_at}
 use Rattle.silt_frame.proofs.RowBytes.{entries_bytes_more, put_bytes_of}
-use Rattle.silt_frame.specs.Rows.{StoredRow, entries_bytes, entry_row}
-use Rattle.silt_sorted_store.specs.Indexing.{HoldsEntries}
-use Rattle.silt_sorted_store.specs.Laws.{EntriesBytesLaw}
-use Rattle.silt_sorted_store.specs.State.{sorted_rows}
 use Rattle.silt_sorted_store.proofs.Chunks.{entries_read}
 use Rattle.silt_sorted_store.proofs.Entries.{entry_count}
 
@@ -35,8 +29,7 @@ module _ (rows : List StoredRow) (place count len : ℕ) (bytes : List ℕ) (hol
       let there = holds n (omega arith) in
       let next : place + suc n ≡ place + n + 1 = omega arith in
       let one : take (place + suc n) rows ≡ take (place + n) rows ++ entry_row part ∷ [] =
-      cc (take_more rows (place + n) (entry_row part) (slice_get_within rows (place + n) (entry_row part) there), get_or_from_slice_get rows (place + n) (entry_row part) (entry_row part) there)
-      in
+      cc (take_more rows (place + n) (entry_row part) (slice_get_within rows (place + n) (entry_row part) there), get_or_from_slice_get rows (place + n) (entry_row part) (entry_row part) there) in
       cc (bytes_more (take (place + n) rows) part, bytes_upto n (omega arith), append_assoc (entries_bytes (take place rows)) (take (n * len) bytes) part, front_more bytes n len)
 
   -- those of the rows before a place and of the rows that these bytes hold are those before the place, and then these bytes

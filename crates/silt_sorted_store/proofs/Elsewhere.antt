@@ -1,17 +1,10 @@
 -- The entries of a sorted region after a change of the disk.
-use Rattle.std.proofs.Common.{◌≡◌, ℕ, ◌+◌, ◌*◌, ◌<◌, ◌≤◌, IsTrue, List, [], ◌∷◌, ◌++◌, length, slice_range, inl, inr, sym, subst, ap, ◌∙◌, arith}
-use Rattle.std.proofs.lemmas.List.FromFn.{map-range_with_len_more}
-use Rattle.silt_disk.specs.Disk.{LiesOutside, Torn}
-use Rattle.silt_disk.specs.Layout.{Shape, device_size, entries_len, entry_len, sorted_at}
-use Rattle.silt_disk.proofs.Images.{torn_slice_after, torn_slice_before}
-use Rattle.silt_disk.proofs.Regions.{next_region, regions_apart}
-use Rattle.silt_sorted_store.specs.State.{sorted_rows, sorted_entry_at}
-use Rattle.silt_frame.specs.Rows.{entries_bytes, entry_row}
+use Rattle.silt_sorted_store.proofs.Common.{◌≡◌, ℕ, ◌+◌, ◌*◌, ◌<◌, ◌≤◌, IsTrue, List, [], ◌∷◌, ◌++◌, length, slice_range, inl, inr, sym, subst, ap, ◌∙◌, arith, map-range_with_len_more}
+use Rattle.silt_sorted_store.proofs.Common.{LiesOutside, Torn, Shape, device_size, entries_len, entry_len, sorted_at, torn_slice_after, torn_slice_before, next_region, regions_apart}
+use Rattle.silt_sorted_store.proofs.Common.{sorted_entry_at, entries_bytes, entry_row, DigestElsewhereLaw, EntriesElsewhereLaw, IndexedElsewhereLaw, IsIndexOf, sha1}
+use Rattle.silt_sorted_store.specs.State.{sorted_rows}
 use Rattle.silt_log.proofs.Bodies.{map_range_same}
-use Rattle.silt_sorted_store.specs.Laws.{DigestElsewhereLaw, EntriesElsewhereLaw, IndexedElsewhereLaw}
-use Rattle.silt_sorted_store.specs.Index.{IsIndexOf}
 use Rattle.silt_sorted_store.proofs.Entries.{part_inside}
-use Rattle.sha1.specs.Sha1.{sha1}
 
 -- the entries of a sorted region lie within the device
 pub entries_inside : (s : Shape) (region : ℕ) → region < 2 → sorted_at s region + s.sorted_capacity * entry_len s ≤ device_size s
@@ -40,8 +33,7 @@ entries_outside s region n at count old new fits most outside torn =
 pub entries_before : (s : Shape) (region n : ℕ) (old new : List ℕ) → sorted_at s region + s.sorted_capacity * entry_len s ≤ length old → n ≤ s.sorted_capacity
     → Torn (sorted_entry_at s region n) (entry_len s) old new → sorted_rows s region n new ≡ sorted_rows s region n old
 unfolding sorted_rows
-entries_before s region n old new fits most torn =
-    map_range_same (λ (p : ℕ). entry_row (entry_bytes s region new p)) (λ (p : ℕ). entry_row (entry_bytes s region old p)) 0 n (λ place low high.
+entries_before s region n old new fits most torn = map_range_same (λ (p : ℕ). entry_row (entry_bytes s region new p)) (λ (p : ℕ). entry_row (entry_bytes s region old p)) 0 n (λ place low high.
     let inside = part_inside (sorted_at s region) (entry_len s) s.sorted_capacity place (length old) fits (omega arith) in
     ap entry_row (torn_slice_before (sorted_entry_at s region n) (entry_len s) old new torn (sorted_entry_at s region place)
     (sorted_entry_at s region place + entry_len s) (omega (arith, next_region place n (entry_len s) (omega arith))) inside))

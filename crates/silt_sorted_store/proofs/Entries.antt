@@ -1,15 +1,8 @@
 -- The entries of a sorted region, by their places, and what a read of a part of one gives.
-use Rattle.std.proofs.Common.{◌≡◌, ℕ, ◌+◌, ◌*◌, ◌<◌, ◌≤◌, List, [], length, take, drop, get_or, slice_get, slice_range, Some, sym, ap, ◌∙◌, arith}
-use Rattle.std.proofs.lemmas.List.{get_or-map}
-use Rattle.std.proofs.lemmas.List.FromFn.{length-map-range_with_len, get_or-map-range_with_len}
-use Rattle.std.proofs.lemmas.Option.{slice_get-get_or, get_or_from_slice_get, slice_get_within}
-use Rattle.silt_disk.specs.Layout.{Shape, entry_len}
-use Rattle.silt_disk.proofs.Regions.{next_region}
-use Rattle.silt_frame.specs.Rows.{StoredRow, entry_row, keys_of}
-use Rattle.silt_log.proofs.Parts.{slice_of_slice, slice_to_end}
-use Rattle.silt_sorted_store.specs.State.{sorted_rows, sorted_entry_at}
-use Rattle.silt_sorted_store.specs.OnlyRow.{HasEntry, HasValue}
-use Rattle.silt_sorted_store.specs.Laws.{EntriesLaw}
+use Rattle.silt_sorted_store.proofs.Common.{◌≡◌, ℕ, ◌+◌, ◌*◌, ◌<◌, ◌≤◌, List, [], length, take, drop, get_or, slice_get, slice_range, Some, sym, ap, ◌∙◌, arith, get_or-map}
+use Rattle.silt_sorted_store.proofs.Common.{length-map-range_with_len, get_or-map-range_with_len, slice_get-get_or, get_or_from_slice_get, slice_get_within, Shape, entry_len, next_region}
+use Rattle.silt_sorted_store.proofs.Common.{StoredRow, entry_row, keys_of, slice_of_slice, slice_to_end, sorted_entry_at, HasEntry, HasValue, EntriesLaw}
+use Rattle.silt_sorted_store.specs.State.{sorted_rows}
 
 -- a part of a region ends within what the region has room for
 pub part_inside : (start len capacity place end : ℕ) → start + capacity * len ≤ end → place < capacity → start + place * len + len ≤ end

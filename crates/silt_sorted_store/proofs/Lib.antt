@@ -7,3 +7,4 @@ pub mod Locating
 pub mod Ranges
 pub mod Rising
 pub mod Writing
+pub mod Common

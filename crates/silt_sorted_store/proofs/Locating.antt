@@ -1,27 +1,13 @@
 -- The place that an index names for a key, and what the row there means for the look-up.
-use Rattle.std.proofs.Common.{◌≡◌, ◌≢◌, ℕ, ◌<◌, ◌≤◌, Bool, true, false, not, List, [], length, take, drop, slice_get, Option, Some, None, sym, ◌∙◌, arith}
+use Rattle.silt_sorted_store.proofs.Common.{◌≡◌, ◌≢◌, ℕ, ◌<◌, Bool, true, false, not, List, [], length, take, drop, slice_get, Some, None, sym, ◌∙◌, arith, cases_Bool, slice_get_within, StoredRow}
+use Rattle.silt_sorted_store.proofs.Common.{entry_row, IsPlaceOfKey, FindsEntry, HasEntry, HasKeyAndValue, HasNoEntry, HasOnlyValue, HasValue, IsOnlyRow}
 use Rattle.std.specs.Str.{bytes_eq}
-use Rattle.std.proofs.lemmas.Bool.{cases_Bool}
 use Rattle.std.proofs.lemmas.Slice.Eq.{bytes_eq-Decides}
-use Rattle.std.proofs.lemmas.List.{length-map}
-use Rattle.std.proofs.lemmas.Option.{slice_get_within}
-use Rattle.silt_frame.specs.Rows.{StoredRow, entry_row}
 use Rattle.silt_sorted_store.specs.Findings.{sorted_findings}
-use Rattle.silt_sorted_store.specs.Index.{IsIndexOf, IsPlaceOfKey}
-use Rattle.silt_sorted_store.specs.OnlyRow.{FindsEntry, HasEntry, HasKeyAndValue, HasNoEntry, HasOnlyValue, HasValue, IsOnlyRow}
 use Rattle.silt_sorted_store.proofs.Entries.{key_of_row, row_inside}
 use Rattle.silt_sorted_store.proofs.Rising.{key_at, one_place}
-use Rattle.silt_trie.specs.Marks.{IsMarkedPlace, MarkedCode}
 
 module _ (rows : List StoredRow) (key : List ℕ) where
-  -- the index of the rows names the key's place
-  pub named_place : (index : MarkedCode) (found : Option ℕ) → IsMarkedPlace index key found → IsIndexOf rows index → IsPlaceOfKey rows key found
-  named_place index found named is = search (arith, length-map)
-
-  -- a place outside the rows is none
-  pub no_place_outside : (place : ℕ) → length rows ≤ place → IsPlaceOfKey rows key (Some place) → IsPlaceOfKey rows key None
-  no_place_outside place outside named = search arith
-
   -- if no place is named, no row has the key
   pub none_named : IsPlaceOfKey rows key None → HasNoEntry rows key
   none_named named = λ place inside at. let is = named place inside at in absurd (cc)

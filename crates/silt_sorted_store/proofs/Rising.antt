@@ -1,15 +1,12 @@
 -- Rows whose keys rise.
-use Rattle.std.proofs.Common.{◌≡◌, ℕ, zero, suc, ◌+◌, ◌-◌, ◌<◌, true, List, [], length, get_or, refl, inl, inr, sym, ap, ◌∙◌, arith}
+use Rattle.silt_sorted_store.proofs.Common.{◌≡◌, ℕ, zero, suc, ◌+◌, ◌-◌, ◌<◌, true, List, [], length, get_or, refl, inl, inr, sym, ap, ◌∙◌, arith, cases_order, StoredRow, keys_of}
+use Rattle.silt_sorted_store.proofs.Common.{passes_where_nothing, RisingLaw}
 use Rattle.std.specs.Ordering.{nat_cmp, is_lt}
 use Rattle.std.specs.Cmp.Lexicographic.{slice_cmp}
 use Rattle.std.specs.declared.cmp.Ordering.{Ordering}
 use Rattle.std.specs.declared.cmp.Ordering.TheVariants.{Less, Equal, Greater}
-use Rattle.std.proofs.lemmas.Bool.{cases_order}
 use Rattle.std.proofs.lemmas.Cmp.{nat_list_cmp_total, tied_itself}
-use Rattle.silt_frame.specs.Rows.{StoredRow, keys_of}
 use Rattle.silt_sorted_store.specs.Findings.{entry_findings, sorted_findings}
-use Rattle.silt_event.proofs.Findings.{passes_where_nothing}
-use Rattle.silt_sorted_store.specs.Laws.{RisingLaw}
 use Rattle.silt_sorted_store.proofs.Ranges.{none_of_each}
 
 -- the key at a place
@@ -43,8 +40,7 @@ rising rows low zero none inside =
     search (arith, next_above)
 rising rows low (suc gap) none inside =
     let here : low + suc gap ≡ low + gap + 1 = omega arith in
-    nat_list_cmp_total.trans (key_at rows low) (key_at rows (low + suc gap)) (key_at rows (low + suc gap + 1)) (search (arith, rising rows low gap none))
-    (next_above rows _ none inside)
+    nat_list_cmp_total.trans (key_at rows low) (key_at rows (low + suc gap)) (key_at rows (low + suc gap + 1)) (search (arith, rising rows low gap none)) (next_above rows _ none inside)
 
 -- a lower place has a lower key
 pub lower_below : (rows : List StoredRow) (low high : ℕ) → sorted_findings rows ≡ [] → low < high → high < length rows → slice_cmp nat_cmp (key_at rows low) (key_at rows high) ≡ Less

@@ -1,11 +1,7 @@
 -- The disk after the write of an entry.
-use Rattle.std.proofs.Common.{◌≡◌, ℕ, ◌+◌, ◌*◌, ◌<◌, ◌≤◌, ◌&&◌, nat_lt, Bool, true, false, cond, IsTrue, List, ◌++◌, length, take, sym, subst, ap, ◌∙◌, arith, append-nil}
-use Rattle.std.proofs.lemmas.Bool.{le-ltb, lt-ltb}
-use Rattle.std.proofs.lemmas.List.{length-append, take-append-le, take_all}
-use Rattle.silt_disk.specs.Disk.{ChangesWithin, Content, Tears, Writes, size}
-use Rattle.silt_disk.specs.Layout.{Shape, device_size, entry_len, sorted_at}
-use Rattle.silt_disk.proofs.Images.{splice_slice, within_wider, write_within}
-use Rattle.silt_sorted_store.specs.State.{sorted_rows, sorted_entry_at}
+use Rattle.silt_sorted_store.proofs.Common.{◌≡◌, ℕ, ◌+◌, ◌*◌, ◌<◌, ◌≤◌, ◌&&◌, nat_lt, Bool, true, false, cond, IsTrue, List, ◌++◌, length, take, sym, subst, ap, ◌∙◌, arith, append-nil, le-ltb}
+use Rattle.silt_sorted_store.proofs.Common.{lt-ltb, length-append, take-append-le, take_all, ChangesWithin, Content, Tears, Writes, size, Shape, device_size, entry_len, sorted_at, splice_slice}
+use Rattle.silt_sorted_store.proofs.Common.{within_wider, write_within, sorted_rows, sorted_entry_at}
 use Rattle.silt_sorted_store.specs.Region.{due_rows, is_written}
 use Rattle.silt_sorted_store.proofs.Elsewhere.{entries_before, entries_inside, entry_more}
 use Rattle.silt_sorted_store.proofs.Entries.{entry_count, part_inside}
@@ -33,8 +29,7 @@ module _ (s : Shape) (region place : ℕ) where
 
     -- the entries before it stay
     pub entries_kept : region < 2 → place < s.sorted_capacity → device_size s ≤ size old → IsTrue old.honest → sorted_rows s region place new.shown ≡ sorted_rows s region place old.shown
-    entries_kept there below fits honest =
-        entries_before s region place old.shown new.shown (omega (arith, entries_inside s region there)) (omega arith) (entry_changes.shown honest)
+    entries_kept there below fits honest = entries_before s region place old.shown new.shown (omega (arith, entries_inside s region there)) (omega arith) (entry_changes.shown honest)
 
     -- and it is the next one
     pub entry_written : (due : Bool) → due ≡ true → region < 2 → place < s.sorted_capacity → device_size s ≤ size old → Writes at bytes old new → IsTrue old.honest

@@ -1,8 +1,4 @@
-use Rattle.std.proofs.Common.{ℕ, ◌*◌, ◌/◌, ◌<◌, ◌≤◌, ap, ◌∙◌, arith}
-use Rattle.std.proofs.Math.Nat.{le-div_iff_mul-le}
-use Rattle.silt_disk.specs.Layout.{entry_len}
-use Rattle.silt_frame.specs.Rows.{keys_of}
-use Rattle.silt_sorted_store.specs.State.{entries_of}
+use Rattle.silt_sorted_store.proofs.Common.{ℕ, ◌*◌, ◌/◌, ◌<◌, ◌≤◌, ap, ◌∙◌, arith, le-div_iff_mul-le, entry_len, keys_of, entries_of}
 use Rattle.silt_sorted_store.proofs.Entries.{entry_count}
 use Rattle.silt_sorted_store.proofs.Checking.{indexing_all, indexing_fine}
 use Rattle.silt_sorted_store.proofs.rebuild.index_entries.Goals as goal

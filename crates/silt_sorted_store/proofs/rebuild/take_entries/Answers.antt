@@ -1,10 +1,5 @@
-use Rattle.std.proofs.Common.{◌≡◌, ℕ, ◌+◌, ◌*◌, ◌<◌, ◌≤◌, length, List, Option, Ok, IfSome, refl, sym, subst, ap, ◌∙◌, arith}
-use Rattle.std.proofs.lemmas.List.{length-take-le, take_all}
-use Rattle.sha1.specs.Sha1.{Holds}
-use Rattle.silt_disk.specs.Layout.{entry_len}
-use Rattle.silt_frame.specs.Rows.{StoredRow, entries_bytes}
-use Rattle.silt_sorted_store.specs.Indexing.{HoldsEntries, HoldsKeys, IsIndexing, TakesKeys}
-use Rattle.silt_sorted_store.specs.State.{entries_of}
+use Rattle.silt_sorted_store.proofs.Common.{◌≡◌, ℕ, ◌+◌, ◌*◌, ◌<◌, ◌≤◌, length, List, Option, Ok, IfSome, refl, sym, subst, ap, ◌∙◌, arith, length-take-le, take_all, Holds, entry_len, StoredRow}
+use Rattle.silt_sorted_store.proofs.Common.{entries_bytes, HoldsKeys, IsIndexing, TakesKeys, entries_of}
 use Rattle.silt_sorted_store.proofs.Entries.{entry_count}
 use Rattle.silt_sorted_store.proofs.Checking.{indexing_none}
 use Rattle.silt_sorted_store.proofs.Chunks.{chunk_fits, written_back}
@@ -21,15 +16,12 @@ loop-place-init g c = record {
 }
 
 pub slice_bounds-chunk-end : goal.slice_bounds-chunk-end
-slice_bounds-chunk-end g c = chunk_fits c.args.entries.now.shape c.min-next.result c.args.most c.entry_len-len.result
-    (length c.loop-place.buffer) (omega (arith, c.min-next.ensures)) (c.entry_len-len.ensures.value ∙ ap entry_len c.geometry.ensures)
-    (omega (arith, c.requires.buffer, c.loop-place.invariant.room))
+slice_bounds-chunk-end g c = chunk_fits c.args.entries.now.shape c.min-next.result c.args.most c.entry_len-len.result (length c.loop-place.buffer) (omega (arith, c.min-next.ensures))
+    (c.entry_len-len.ensures.value ∙ ap entry_len c.geometry.ensures) (omega (arith, c.requires.buffer, c.loop-place.invariant.room))
 
 pub slice_bounds-chunk-end-in-loop-place : goal.slice_bounds-chunk-end-in-loop-place
-slice_bounds-chunk-end-in-loop-place g c = sym (length-take-le _ c.loop-place.buffer
-    (chunk_fits c.args.entries.now.shape c.min-next.result c.args.most c.entry_len-len.result (length c.loop-place.buffer)
-    (omega (arith, c.min-next.ensures)) (c.entry_len-len.ensures.value ∙ ap entry_len c.geometry.ensures)
-    (omega (arith, c.requires.buffer, c.loop-place.invariant.room))))
+slice_bounds-chunk-end-in-loop-place g c = sym (length-take-le _ c.loop-place.buffer (chunk_fits c.args.entries.now.shape c.min-next.result c.args.most c.entry_len-len.result (length
+    c.loop-place.buffer) (omega (arith, c.min-next.ensures)) (c.entry_len-len.ensures.value ∙ ap entry_len c.geometry.ensures) (omega (arith, c.requires.buffer, c.loop-place.invariant.room))))
 
 pub read_entries-requires-clause-some : goal.read_entries-requires-clause-some
 read_entries-requires-clause-some g c = λ lifetimes outlive.

@@ -1,8 +1,4 @@
-use Rattle.std.proofs.Common.{◌≡◌, ◌-◌, ◌≤◌, IsTrue, length, take}
-use Rattle.sha1.specs.Sha1.{Holds}
-use Rattle.silt_frame.specs.Rows.{entries_bytes}
-use Rattle.silt_sorted_store.specs.Indexing.{IsIndexing}
-use Rattle.silt_sorted_store.specs.State.{entries_of}
+use Rattle.silt_sorted_store.proofs.Common.{◌≡◌, ◌-◌, ◌≤◌, IsTrue, length, take, Holds, entries_bytes, IsIndexing, entries_of}
 use Rattle.silt_sorted_store.proofs.rebuild.take_entries.Given as goal
 
 -- the entries so far were taken, and their bytes were digested

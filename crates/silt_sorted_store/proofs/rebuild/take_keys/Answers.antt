@@ -1,6 +1,4 @@
-use Rattle.std.proofs.Common.{◌≡◌, ℕ, ◌+◌, List, Ok, sym, subst, ap, ◌∙◌, arith}
-use Rattle.silt_frame.specs.declared.key.Key.{Key}
-use Rattle.silt_sorted_store.specs.Indexing.{IsIndexing}
+use Rattle.silt_sorted_store.proofs.Common.{◌≡◌, ℕ, ◌+◌, List, Ok, sym, subst, ap, ◌∙◌, arith, Key, IsIndexing}
 use Rattle.silt_sorted_store.proofs.Checking.{indexing_more, indexing_refused}
 use Rattle.silt_sorted_store.proofs.Chunks.{key_in_part}
 use Rattle.silt_sorted_store.proofs.rebuild.take_keys.Goals as goal
@@ -37,8 +35,7 @@ loop-i-preserved c =
       taken = λ rows room holds so_far.
           let key = ap (λ (p : Key × List ℕ). p.0.0) c.entry_of.ensures in
           let at = key_in_part rows c.args.first c.args.count c.args.len i c.args.bytes.now c.entry_of.result.0.0 c.requires.len c.requires.bytes c.loop-i-test.true holds key in
-          subst (λ (n : ℕ). IsIndexing rows n c.push.new.self.building) next
-          (indexing_more rows (c.args.first + i) c.loop-i.builder.building c.push.new.self.building c.entry_of.result.0
-          (omega (arith, room, c.loop-i-test.true)) (c.loop-i.invariant.taken rows room holds so_far) at
-          (sym c.in_ok-push.ensures.taken ∙ c.if-not-branch.false) (c.in_ok-push.ensures.built yes) last.0);
+          subst (λ (n : ℕ). IsIndexing rows n c.push.new.self.building) next (indexing_more rows (c.args.first + i) c.loop-i.builder.building c.push.new.self.building c.entry_of.result.0
+          (omega (arith, room, c.loop-i-test.true)) (c.loop-i.invariant.taken rows room holds so_far) at (sym c.in_ok-push.ensures.taken ∙ c.if-not-branch.false) (c.in_ok-push.ensures.built yes)
+          last.0);
     }

@@ -1,6 +1,4 @@
-use Rattle.std.proofs.Common.{◌≡◌, ◌+◌, ◌≤◌, List, length}
-use Rattle.silt_frame.specs.Rows.{StoredRow}
-use Rattle.silt_sorted_store.specs.Indexing.{HoldsKeys, IsIndexing}
+use Rattle.silt_sorted_store.proofs.Common.{◌≡◌, ◌+◌, ◌≤◌, List, length, StoredRow, HoldsKeys, IsIndexing}
 use Rattle.silt_sorted_store.proofs.rebuild.take_keys.Given as goal
 
 -- the keys so far were taken

@@ -1,4 +1,4 @@
-use Rattle.std.proofs.Common.{◌<◌, arith}
+use Rattle.silt_sorted_store.proofs.Common.{◌<◌, arith}
 use Rattle.silt_disk.proofs.Wrote.{write_wrote, wrote_at, wrote_err, wrote_none, wrote_ok}
 use Rattle.silt_sorted_store.proofs.Writing.{due_there, entries_kept, entry_written, none_counted, none_due, none_more, not_due, not_there, one_counted, region_changes}
 use Rattle.silt_sorted_store.proofs.region.SortedRegion.write_due.Goals as goal
@@ -8,7 +8,8 @@ returns-then-not-is_due-clause-written g c = λ honest. none_due c.args.self.now
 
 pub returns-then-place-sorted_capacity-clause-written : goal.returns-then-place-sorted_capacity-clause-written
 returns-then-place-sorted_capacity-clause-written g c =
-    λ honest. none_more c.args.self.now.geometry c.args.self.now.number c.args.place _ c.args.entry.now c.args.is_due (omega (arith, c.if-place-sorted_capacity.true, c.sorted_capacity.ensures.value))
+    λ honest. none_more c.args.self.now.geometry c.args.self.now.number c.args.place _ c.args.entry.now c.args.is_due
+    (omega (arith, c.if-place-sorted_capacity.true, c.sorted_capacity.ensures.value))
 
 pub returns-in_err-write-clause-region : goal.returns-in_err-write-clause-region
 returns-in_err-write-clause-region g c =
@@ -35,9 +36,8 @@ returns-clause-kept g c =
 pub returns-clause-written : goal.returns-clause-written
 returns-clause-written g c =
     let below : c.args.place < c.args.self.now.geometry.sorted_capacity = omega (arith, c.requires.place, c.if-place-sorted_capacity.false, c.sorted_capacity.ensures.value) in
-    entry_written c.args.self.now.geometry c.args.self.now.number c.args.place c.entry_at.result c.args.entry.now _ _ c.entry_at.ensures.value
-    c.requires.entry c.write.ensures.torn c.args.is_due c.if-not-is_due.false
-    c.args.self.now.there below c.requires.size c.in_ok-write.ensures.written
+    entry_written c.args.self.now.geometry c.args.self.now.number c.args.place c.entry_at.result c.args.entry.now _ _ c.entry_at.ensures.value c.requires.entry c.write.ensures.torn c.args.is_due
+    c.if-not-is_due.false c.args.self.now.there below c.requires.size c.in_ok-write.ensures.written
 
 pub returns-then-not-is_due-clause-count : goal.returns-then-not-is_due-clause-count
 returns-then-not-is_due-clause-count g c = none_counted _ c.args.place (not_due c.args.is_due c.args.place c.args.self.now.geometry.sorted_capacity c.if-not-is_due.true)

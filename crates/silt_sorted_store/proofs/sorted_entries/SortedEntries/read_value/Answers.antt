@@ -1,4 +1,4 @@
-use Rattle.std.proofs.Common.{arith}
+use Rattle.silt_sorted_store.proofs.Common.{arith}
 use Rattle.silt_sorted_store.proofs.Entries.{value_read}
 use Rattle.silt_sorted_store.proofs.sorted_entries.SortedEntries.read_value.Goals as goal
 

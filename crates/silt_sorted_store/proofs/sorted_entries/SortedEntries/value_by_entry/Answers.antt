@@ -1,6 +1,4 @@
-use Rattle.std.proofs.Common.{length, sym, ◌∙◌, arith}
-use Rattle.std.proofs.lemmas.List.{length-drop, take_all}
-use Rattle.silt_sorted_store.specs.State.{entries_of}
+use Rattle.silt_sorted_store.proofs.Common.{sym, ◌∙◌, arith, length-drop, take_all, entries_of}
 use Rattle.silt_sorted_store.proofs.Locating.{entry_has, key_of_entry, keys_agree, keys_differ}
 use Rattle.silt_sorted_store.proofs.sorted_entries.SortedEntries.value_by_entry.Goals as goal
 

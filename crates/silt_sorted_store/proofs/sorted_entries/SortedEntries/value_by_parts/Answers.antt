@@ -1,5 +1,4 @@
-use Rattle.std.proofs.Common.{◌∙◌}
-use Rattle.silt_sorted_store.specs.State.{entries_of}
+use Rattle.silt_sorted_store.proofs.Common.{◌∙◌, entries_of}
 use Rattle.silt_sorted_store.proofs.Locating.{keys_agree, parts_have}
 use Rattle.silt_sorted_store.proofs.sorted_entries.SortedEntries.value_by_parts.Goals as goal
 

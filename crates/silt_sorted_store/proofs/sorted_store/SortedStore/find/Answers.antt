@@ -1,6 +1,4 @@
-use Rattle.std.proofs.Common.{◌≡◌, sym, subst, ap, ◌∙◌, arith}
-use Rattle.silt_sorted_store.specs.State.{SortedState, entries_of}
-use Rattle.silt_sorted_store.specs.Index.{IndexedState}
+use Rattle.silt_sorted_store.proofs.Common.{◌≡◌, sym, subst, ap, ◌∙◌, arith, SortedState, entries_of, IndexedState}
 use Rattle.silt_sorted_store.proofs.Rising.{key_at}
 use Rattle.silt_sorted_store.proofs.Entries.{entry_count}
 use Rattle.silt_sorted_store.proofs.Locating.{found_here, keys_agree, keys_differ, none_named, other_named}

@@ -1,7 +1,4 @@
-use Rattle.std.proofs.Common.{◌≢◌, subst, ap}
-use Rattle.silt_sorted_store.specs.State.{SortedState, entries_of}
-use Rattle.silt_sorted_store.specs.Index.{IndexedState}
-use Rattle.silt_sorted_store.specs.OnlyRow.{HasKeyAndValue}
+use Rattle.silt_sorted_store.proofs.Common.{◌≢◌, subst, ap, SortedState, entries_of, IndexedState, HasKeyAndValue}
 use Rattle.silt_sorted_store.proofs.Rising.{key_at}
 use Rattle.silt_sorted_store.proofs.Entries.{entry_count}
 use Rattle.silt_sorted_store.proofs.Locating.{none_named, other_named, value_here}
