@@ -1,29 +1,16 @@
 -- Applied to a map, the rows that a conversion writes and the log's rows give the same map.
-use Rattle.std.proofs.Common.{◌≡◌, ℕ, zero, suc, ◌*◌, ◌<◌, ◌⊎◌, Bool, true, false, cond, List, [], ◌∷◌, length, map, filter, get_or, slice_get, Option, Some, None, inl, inr, refl, sym, ap}
-use Rattle.std.proofs.Common.{◌∙◌, arith, bytes_eq}
+use Rattle.silt_conversion.proofs.Common.{◌≡◌, ℕ, zero, suc, ◌*◌, ◌<◌, ◌⊎◌, Bool, true, false, cond, List, [], ◌∷◌, length, map, filter, get_or, slice_get, Option, Some, None, inl, inr, refl, sym}
+use Rattle.silt_conversion.proofs.Common.{ap, ◌∙◌, arith, bytes_eq, range_with_len, and_from, and_parts, cases_Bool, get_or-map-range_with_len, length-map-range_with_len, get_or_from_slice_get}
+use Rattle.silt_conversion.proofs.Common.{slice_get-get_or, slice_get_within, bytes_eq-Decides, Entry, Slots, entry_at, index_law, newest_apart, Shape, changed_get, keys_of, has_known_kind}
+use Rattle.silt_conversion.proofs.Common.{StoredRow, entry_law, key_of_row, keys_count, ConvertedMapLaw, IsTableOf, is_row_of, empty_not_known}
 use Rattle.std.specs.FinMap.{get, same_map, slice_cmp-IsAntisymmetric, nat_cmp-IsAntisymmetric}
-use Rattle.std.specs.List.{range_with_len}
-use Rattle.std.proofs.lemmas.Bool.{and_from, and_parts, cases_Bool}
 use Rattle.std.proofs.lemmas.Cmp.{nat_list_cmp_total}
-use Rattle.std.proofs.lemmas.List.FromFn.{get_or-map-range_with_len, length-map-range_with_len}
-use Rattle.std.proofs.lemmas.Option.{get_or_from_slice_get, slice_get-get_or, slice_get_within}
-use Rattle.std.proofs.lemmas.Slice.Eq.{bytes_eq-Decides}
 use Rattle.silt_cuckoo.specs.Index.{IsNewest}
-use Rattle.silt_cuckoo.specs.Slots.{Entry, Slots, entry_at}
 use Rattle.silt_cuckoo.proofs.Paths.{entry_inside}
 use Rattle.silt_cuckoo.proofs.Placed.{has_entry}
-use Rattle.silt_cuckoo.proofs.Indexing.{index_law, newest_apart}
-use Rattle.silt_disk.specs.Layout.{Shape}
-use Rattle.silt_event.proofs.Rows.{changed_get}
 use Rattle.silt_event.specs.Commands.{Map, changed, map_after}
 use Rattle.silt_event.specs.Rows.{value_given, command_of}
-use Rattle.silt_frame.specs.Rows.{keys_of, has_known_kind, StoredRow}
-use Rattle.silt_log_store.proofs.Entries.{entry_law}
-use Rattle.silt_log_store.proofs.Rows.{key_of_row, keys_count}
 use Rattle.silt_conversion.specs.Conversion.{converted_before, converted_row, converted_rows, empty_row}
-use Rattle.silt_conversion.specs.Laws.{ConvertedMapLaw, IsTableOf}
-use Rattle.silt_hash_store.specs.Slots.{is_row_of}
-use Rattle.silt_hash_store.proofs.Slotting.{empty_not_known}
 use Rattle.silt_conversion.proofs.Soundness.{empty_kind, entry_known, place_inside, row_of_entry, row_of_none}
 
 -- a row of the key sets its value, and another row changes nothing for the key
@@ -67,8 +54,7 @@ settled_more v key m row rows all some rest = go _ refl _ refl
     ]
 
     go : (known : Bool) → has_known_kind row ≡ known → (same : Bool) → bytes_eq row.key key ≡ same → get (after_known m (row ∷ rows)) key ≡ v
-    go true known true same =
-        cc (kept_first row rows known, rest (changed m (command_of row)) (inl (set_by m row key same ∙ all 0 row refl (and_from _ _ known same))))
+    go true known true same = cc (kept_first row rows known, rest (changed m (command_of row)) (inl (set_by m row key same ∙ all 0 row refl (and_from _ _ known same))))
     go true known false other =
         let lacks : is_row_of key row ≡ false = rw (known, other) refl in
         cc (kept_first row rows known, rest (changed m (command_of row)) (further lacks (changed m (command_of row)) (left_by m row key other)))

@@ -1,15 +1,9 @@
 -- The rows that a conversion writes have at most as many puts as the log's rows.
-use Rattle.std.proofs.Common.{◌≡◌, ◌≢◌, ℕ, zero, suc, ◌+◌, ◌*◌, ◌≤◌, ◌<◌, ◌==◌, nat_lt, false, cond, List, [], ◌∷◌, filter, length, map, take, get_or, Option, Some, None, inl, inr, refl}
-use Rattle.std.proofs.Common.{sym, ap, ◌∙◌, arith, take_all}
-use Rattle.std.specs.List.{range_with_len}
-use Rattle.std.proofs.lemmas.Bool.{cases_Bool, cases_eq, cases_lt, cond-false, cond-true, eqb-true, le-ltb, lt-ltb}
-use Rattle.std.proofs.lemmas.List.FromFn.{sum_by-map-range_with_len_more}
+use Rattle.silt_conversion.proofs.Common.{◌≡◌, ◌≢◌, ℕ, zero, suc, ◌+◌, ◌*◌, ◌≤◌, ◌<◌, ◌==◌, nat_lt, false, cond, List, [], ◌∷◌, filter, length, map, take, get_or, Option, Some, None, inl, inr}
+use Rattle.silt_conversion.proofs.Common.{refl, sym, ap, ◌∙◌, arith, take_all, range_with_len, cases_Bool, cases_eq, cases_lt, cond-false, cond-true, eqb-true, le-ltb, lt-ltb}
+use Rattle.silt_conversion.proofs.Common.{sum_by-map-range_with_len_more, Entry, entry_at, place_at, put_count, keys_of, has_known_kind, StoredRow, entry_law, ConvertedChargeLaw}
 use Rattle.std.proofs.lemmas.List.Sums.{sum_by-cons, sum_by_more}
-use Rattle.silt_cuckoo.specs.Slots.{Entry, entry_at, place_at}
-use Rattle.silt_frame.specs.Rows.{put_count, keys_of, has_known_kind, StoredRow}
-use Rattle.silt_log_store.proofs.Entries.{entry_law}
 use Rattle.silt_conversion.specs.Conversion.{converted_before, converted_row, converted_rows, empty_row}
-use Rattle.silt_conversion.specs.Laws.{ConvertedChargeLaw}
 use Rattle.silt_conversion.proofs.Soundness.{empty_kind, place_inside, row_of_entry, row_of_none}
 
 -- how many puts a row is
@@ -131,5 +125,4 @@ converted_charge s rows table is =
   where
     each : (slot : ℕ) (e : Option Entry) → entry_at table slot ≡ e → weight (converted_row s table rows slot) ≡ reach rows (empty_row s) (length rows) (place_at table slot)
     each slot None at = cc (row_of_none s rows table is slot at, cond-false _ _ _ (ap (λ n. n == 1) (empty_kind s)))
-    each slot (Some (tag, place)) at =
-        cc (row_of_entry s rows table is slot tag place at, reach_inside rows (empty_row s) (length rows) place (place_inside s rows table is slot tag place at))
+    each slot (Some (tag, place)) at = cc (row_of_entry s rows table is slot tag place at, reach_inside rows (empty_row s) (length rows) place (place_inside s rows table is slot tag place at))

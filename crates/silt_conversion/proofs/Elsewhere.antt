@@ -1,10 +1,5 @@
 -- What calls on other parts of the disk leave of a conversion.
-use Rattle.std.proofs.Common.{◌+◌, ◌*◌, ◌≤◌, subst, arith}
-use Rattle.silt_disk.specs.Disk.{size}
-use Rattle.silt_disk.specs.Layout.{Shape, device_size, hash_at, row_len}
-use Rattle.silt_log_store.proofs.Elsewhere.{rows_outside}
-use Rattle.silt_hash_store.proofs.Elsewhere.{slot_outside, slots_inside}
-use Rattle.silt_conversion.specs.Laws.{WrittenElsewhereLaw}
+use Rattle.silt_conversion.proofs.Common.{◌+◌, ◌*◌, ◌≤◌, subst, arith, size, Shape, device_size, hash_at, row_len, rows_outside, slot_outside, slots_inside, WrittenElsewhereLaw}
 use Rattle.silt_conversion.proofs.Writing.{written_same}
 
 -- a conversion has written what it had

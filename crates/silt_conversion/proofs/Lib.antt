@@ -3,3 +3,4 @@ pub mod Charging
 pub mod Elsewhere
 pub mod Soundness
 pub mod Writing
+pub mod Common

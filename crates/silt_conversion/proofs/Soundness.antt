@@ -1,30 +1,19 @@
 -- The rows that a conversion writes are sound, and have the tags of the log's table.
-use Rattle.std.proofs.Common.{◌≡◌, ◌≢◌, ℕ, ◌+◌, ◌*◌, ◌/◌, ◌<◌, ◌==◌, true, false, ◌||◌, cond, List, [], length, map, take, get_or, slice_get, Option, Some, None, inl, inr, option_map, refl}
-use Rattle.std.proofs.Common.{sym, ap, ◌∙◌, arith, bytes_eq}
-use Rattle.std.specs.List.{range_with_len}
-use Rattle.std.proofs.lemmas.Bool.{and_parts, cases_Bool, cases_eq, cond-false, cond-true, eq-eqb, ne_eqb}
+use Rattle.silt_conversion.proofs.Common.{◌≡◌, ◌≢◌, ℕ, ◌+◌, ◌*◌, ◌/◌, ◌<◌, ◌==◌, true, false, ◌||◌, cond, List, [], length, map, take, get_or, slice_get, Option, Some, None, inl, inr, option_map}
+use Rattle.silt_conversion.proofs.Common.{refl, sym, ap, ◌∙◌, arith, bytes_eq, range_with_len, and_parts, cases_Bool, cases_eq, cond-false, cond-true, eq-eqb, ne_eqb, get_or-map-range_with_len}
+use Rattle.silt_conversion.proofs.Common.{length-map-range_with_len, take-map-range_with_len, slice_get-get_or, slice_get_within, bytes_eq-Decides, Entry, Slots, entry_at, place_at, newest_apart}
+use Rattle.silt_conversion.proofs.Common.{Shape, row_len, keys_of, has_known_kind, StoredRow, entry_law, key_of_row, keys_count, passes_at, ConvertedSoundLaw, IsTableOf, is_row_of, tag_of}
+use Rattle.silt_conversion.proofs.Common.{empty_not_known, sound_empty, sound_known, tag_empty, tag_known}
 use Rattle.std.proofs.lemmas.List.{get_or-replicate}
-use Rattle.std.proofs.lemmas.List.FromFn.{get_or-map-range_with_len, length-map-range_with_len, take-map-range_with_len}
-use Rattle.std.proofs.lemmas.Option.{slice_get-get_or, slice_get_within}
-use Rattle.std.proofs.lemmas.Slice.Eq.{bytes_eq-Decides}
 use Rattle.silt_cuckoo.specs.Keys.{first_bucket, key_pair, second_bucket}
 use Rattle.silt_cuckoo.specs.Pairs.{pair_of}
 use Rattle.silt_cuckoo.specs.Placing.{other_bucket}
-use Rattle.silt_cuckoo.specs.Slots.{Entry, Slots, entry_at, place_at}
-use Rattle.silt_cuckoo.proofs.Indexing.{newest_apart}
-use Rattle.silt_disk.specs.Layout.{Shape, row_len}
 use Rattle.silt_hash_store.specs.Findings.{hash_findings, holds_key, is_in_bucket, is_sound_hash_slot}
-use Rattle.silt_frame.specs.Rows.{keys_of, has_known_kind, StoredRow}
 use Rattle.silt_log.specs.Parts.{Part}
 use Rattle.silt_log_store.specs.Laws.{HasEntries}
-use Rattle.silt_log_store.proofs.Entries.{entry_law}
-use Rattle.silt_log_store.proofs.Rows.{key_of_row, keys_count, passes_at}
 use Rattle.silt_conversion.specs.Conversion.{converted_before, converted_row, converted_rows, empty_row, row_for, tag_of_entry}
-use Rattle.silt_conversion.specs.Laws.{ConvertedSoundLaw, IsTableOf}
-use Rattle.silt_hash_store.specs.Slots.{is_row_of, tag_of}
 use Rattle.silt_hash_store.proofs.Finding.{holds_none}
 use Rattle.silt_hash_store.proofs.Growing.{nothing_from}
-use Rattle.silt_hash_store.proofs.Slotting.{empty_not_known, sound_empty, sound_known, tag_empty, tag_known}
 
 -- the row of an empty slot has the kind 0
 pub empty_kind : (s : Shape) → (empty_row s).kind ≡ 0

@@ -1,34 +1,22 @@
 -- The state after a step of a conversion, and the store of a finished conversion.
-use Rattle.std.proofs.Common.{◌≡◌, ◌≢◌, ℕ, ◌+◌, ◌*◌, ◌≤◌, ◌<◌, true, IsTrue, List, [], ◌∷◌, ◌++◌, filter, length, Option, Some, None, inl, inr, refl, sym, subst, ap, ◌∙◌, arith, length-set}
-use Rattle.std.proofs.Common.{get_or-set_other, get_or-set_same}
-use Rattle.std.proofs.lemmas.Bool.{cases_eq}
+use Rattle.silt_conversion.proofs.Common.{◌≡◌, ◌≢◌, ℕ, ◌+◌, ◌*◌, ◌≤◌, ◌<◌, true, IsTrue, List, [], ◌∷◌, ◌++◌, filter, length, Option, Some, None, inl, inr, refl, sym, subst, ap, ◌∙◌, arith}
+use Rattle.silt_conversion.proofs.Common.{length-set, get_or-set_other, get_or-set_same, cases_eq, map-range_with_len_more, Entry, IsBucketCount, Slots, entry_at, ChangesWithin, Content}
+use Rattle.silt_conversion.proofs.Common.{LiesOutside, size, Shape, device_size, commits_at, log_len, row_len, put_count, has_known_kind, row_bytes, row_of, rows_bytes, StoredRow, hash_rows}
+use Rattle.silt_conversion.proofs.Common.{hash_slot_at, slot_row, slot_tag, tag_of, count_law, row_at, InBounds, all_rows, IsFrozenStore, IsIndexed, LogStoreState, frozen_elsewhere, rows_outside}
+use Rattle.silt_conversion.proofs.Common.{known_there, IsTableOf, behind_logs, slots_inside, all_before}
 use Rattle.std.proofs.lemmas.List.Elements.{filter-append}
-use Rattle.std.proofs.lemmas.List.FromFn.{map-range_with_len_more}
 use Rattle.sha1.specs.Sha1.{Holds, sha1}
 use Rattle.sha1.specs.declared.Sha1.{Sha1}
-use Rattle.silt_cuckoo.specs.Slots.{Entry, IsBucketCount, Slots, entry_at}
-use Rattle.silt_disk.specs.Disk.{ChangesWithin, Content, LiesOutside, size}
-use Rattle.silt_disk.specs.Layout.{Shape, device_size, commits_at, log_len, row_len}
 use Rattle.silt_hash_store.specs.Findings.{hash_findings}
-use Rattle.silt_frame.specs.Rows.{put_count, has_known_kind, row_bytes, row_of, rows_bytes, StoredRow}
 use Rattle.silt_frame.specs.Frame.{head_len}
 use Rattle.silt_frame.proofs.RowBytes.{row_bytes_of, rows_bytes_more}
-use Rattle.silt_hash_store.specs.Slots.{hash_rows, rows_before, hash_slot_at, slot_row, slot_tag, tag_of}
-use Rattle.silt_event.proofs.Rows.{count_law}
-use Rattle.silt_log.specs.Rows.{row_at}
-use Rattle.silt_log.specs.State.{InBounds, all_rows}
+use Rattle.silt_hash_store.specs.Slots.{rows_before}
 use Rattle.silt_log.proofs.Bodies.{map_range_same}
 use Rattle.silt_log.proofs.Elsewhere.{row_of_all}
-use Rattle.silt_log_store.specs.State.{IsFrozenStore, IsIndexed, LogStoreState}
-use Rattle.silt_log_store.proofs.Elsewhere.{frozen_elsewhere, rows_outside}
-use Rattle.silt_log_store.proofs.Rows.{known_there}
 use Rattle.silt_conversion.specs.Conversion.{ConversionState, HasWritten, IsDigestOf, IsHeldConversion, Steps, converted_before, converted_row, converted_rows, tag_of_entry, with_entry}
-use Rattle.silt_conversion.specs.Laws.{IsTableOf}
 use Rattle.silt_conversion.specs.declared.conversion.Conversion.TheInside.{Inside}
 use Rattle.silt_hash_store.specs.State.{IsHashStore}
-use Rattle.silt_hash_store.proofs.Elsewhere.{behind_logs, slots_inside}
 use Rattle.silt_hash_store.proofs.Reading.{slot_elsewhere}
-use Rattle.silt_hash_store.proofs.Slotting.{all_before}
 use Rattle.silt_conversion.proofs.Soundness.{converted_sound, converted_tag}
 
 -- the row of an entry of a log
@@ -120,9 +108,8 @@ module _ (old new : Content) (log : LogStoreState) (conversion : ConversionState
 
   -- the slots before show what they showed
   pub written_kept : conversion.region < conversion.shape.hashes → conversion.next < 4 * conversion.shape.buckets → HasWritten old log conversion → HasWritten new log conversion
-  written_kept there below = written_same old new log conversion changes.honest rows_kept (λ was slot low. slot_elsewhere conversion.shape conversion.region
-      conversion.next slot old.shown new.shown (omega (arith, slots_inside conversion.shape conversion.region there, fits)) below (omega (arith, low, below)) (λ at.
-      absurd (omega arith)) (changes.shown was))
+  written_kept there below = written_same old new log conversion changes.honest rows_kept (λ was slot low. slot_elsewhere conversion.shape conversion.region conversion.next slot old.shown
+      new.shown (omega (arith, slots_inside conversion.shape conversion.region there, fits)) below (omega (arith, low, below)) (λ at. absurd (omega arith)) (changes.shown was))
 
   -- and the next one its row
   pub written_step : (after : ConversionState) → conversion.region < conversion.shape.hashes → conversion.next < 4 * conversion.shape.buckets → length conversion.tags ≡ 4 * conversion.shape.buckets
@@ -132,25 +119,20 @@ module _ (old new : Content) (log : LogStoreState) (conversion : ConversionState
       let was : IsTrue new.honest → IsTrue old.honest = λ honest. sym changes.honest ∙ honest in
       let due : IsTrue new.honest → due_in old ≡ due_in new = λ honest.
       ap (λ (rows : List StoredRow). converted_row conversion.shape log.table rows conversion.next) (sym (rows_kept (was honest))) in
-      rw steps.next
-      (record {
+      rw steps.next (record {
         shape = is.shape;
         due = λ honest slot low. elim (cases_eq slot conversion.next) [
           | inl here ↦ ap (slot_row conversion.shape conversion.region new.shown) here ∙ steps.shows
               (was honest) frozen ∙ due honest ∙ ap (converted_row conversion.shape log.table (all_rows new log.log)) (sym here)
-          | inr other ↦ kept.due honest slot (omega
-              arith)
+          | inr other ↦ kept.due honest slot (omega arith)
         ];
         tagged = λ slot low. elim (cases_eq slot conversion.next) [
-          | inl here ↦ ap (slot_tag (with_entry conversion.tags conversion.next (entry_at log.table
-              conversion.next))) here ∙ entry_here conversion.tags conversion.next (entry_at log.table conversion.next) (omega (arith, below, long)) none ∙ ap (λ n.
-              tag_of_entry (entry_at log.table n)) (sym here)
-          | inr other ↦ entry_elsewhere conversion.tags conversion.next slot (entry_at log.table conversion.next) other
-              ∙ is.tagged slot (omega arith)
+          | inl here ↦ ap (slot_tag (with_entry conversion.tags conversion.next (entry_at log.table conversion.next))) here ∙ entry_here conversion.tags conversion.next (entry_at log.table
+              conversion.next) (omega (arith, below, long)) none ∙ ap (λ n. tag_of_entry (entry_at log.table n)) (sym here)
+          | inr other ↦ entry_elsewhere conversion.tags conversion.next slot (entry_at log.table conversion.next) other ∙ is.tagged slot (omega arith)
         ];
-        charged = λ honest. steps.added (was honest) frozen ∙ ap (λ (row : StoredRow). conversion.puts + put_count (filter has_known_kind (row ∷ []))) (due honest) ∙
-            ap (λ n. n + put_count (filter has_known_kind (due_in new ∷ []))) (kept.charged honest) ∙ sym (due_more conversion.shape log.table (all_rows new log.log)
-            conversion.next);
+        charged = λ honest. steps.added (was honest) frozen ∙ ap (λ (row : StoredRow). conversion.puts + put_count (filter has_known_kind (row ∷ []))) (due honest) ∙ ap (λ n. n + put_count (filter
+            has_known_kind (due_in new ∷ []))) (kept.charged honest) ∙ sym (due_more conversion.shape log.table (all_rows new log.log) conversion.next);
         hashed = λ honest. let before : List ℕ = rows_bytes (converted_before conversion.shape log.table (all_rows new log.log) conversion.next) in subst (λ (l : List
             ℕ). Holds after.hasher l) (ap (λ (row : StoredRow). before ++ row_bytes row) (due honest) ∙ sym (bytes_more conversion.shape log.table (all_rows new log.log)
             conversion.next)) (steps.fed (was honest) frozen before (kept.hashed honest));
@@ -199,8 +181,7 @@ pub store_stands : (content : Content) (log : LogStoreState) (conversion : Conve
     → IsDigestOf conversion.hasher digest → IsFrozenStore content log → HasWritten content log conversion
     → IsHashStore content (record { shape = conversion.shape; region = conversion.region; tags = conversion.tags; puts = conversion.puts; digest = digest })
 store_stands content log conversion digest count done finalizes frozen is = record {
-  sound = λ honest.
-      ap (λ (rows : List StoredRow). hash_findings conversion.shape (record { region = conversion.region; rows = rows })) (all_due content log conversion done is honest)
+  sound = λ honest. ap (λ (rows : List StoredRow). hash_findings conversion.shape (record { region = conversion.region; rows = rows })) (all_due content log conversion done is honest)
       ∙ converted_sound conversion.shape (all_rows content log.log) log.table conversion.region (its_table honest);
   tagged = λ honest slot below. is.tagged slot (omega (arith, below, done))
       ∙ sym (converted_tag conversion.shape (all_rows content log.log) log.table (its_table honest) slot)

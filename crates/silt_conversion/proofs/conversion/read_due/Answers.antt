@@ -1,7 +1,4 @@
-use Rattle.std.proofs.Common.{◌≡◌, ◌<◌, true, Some, option_map, sym, ap, ◌∙◌, arith}
-use Rattle.silt_cuckoo.specs.Slots.{Entry, entry_at}
-use Rattle.silt_log.specs.Rows.{row_at}
-use Rattle.silt_frame.specs.Rows.{has_known_kind, row_of}
+use Rattle.silt_conversion.proofs.Common.{◌≡◌, ◌<◌, true, Some, option_map, sym, ap, ◌∙◌, arith, Entry, entry_at, row_at, has_known_kind, row_of}
 use Rattle.silt_conversion.proofs.Writing.{due_is, due_known}
 use Rattle.silt_conversion.proofs.conversion.read_due.Goals as goal
 

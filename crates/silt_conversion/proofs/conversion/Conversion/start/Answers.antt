@@ -1,4 +1,4 @@
-use Rattle.std.proofs.Common.{refl}
+use Rattle.silt_conversion.proofs.Common.{refl}
 use Rattle.silt_conversion.proofs.Writing.{none_written}
 use Rattle.silt_conversion.proofs.conversion.Conversion.start.Goals as goal
 

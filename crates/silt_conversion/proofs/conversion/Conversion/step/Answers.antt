@@ -1,10 +1,5 @@
-use Rattle.std.proofs.Common.{◌≡◌, IsTrue, drop, length, ap, sym, ◌∙◌, rules, arith, take_at}
-use Rattle.silt_cuckoo.specs.Slots.{entry_at}
-use Rattle.silt_disk.specs.Layout.{Shape}
+use Rattle.silt_conversion.proofs.Common.{◌≡◌, IsTrue, drop, length, ap, sym, ◌∙◌, rules, arith, take_at, entry_at, Shape, row_of, all_rows, IsFrozenStore}
 use Rattle.silt_disk.proofs.Wrote.{wrote_refused}
-use Rattle.silt_frame.specs.Rows.{row_of}
-use Rattle.silt_log.specs.State.{all_rows}
-use Rattle.silt_log_store.specs.State.{IsFrozenStore}
 use Rattle.silt_conversion.specs.Conversion.{converted_row, with_entry}
 use Rattle.silt_conversion.proofs.Writing.{conversion_of, frozen_kept, held_as, step_made, written_kept, written_step}
 use Rattle.silt_conversion.proofs.conversion.Conversion.step.Goals as goal
@@ -15,8 +10,7 @@ returns-in-Err-write_slot-clause-written g c =
     let more = rw (← c.self.view_is) at c.requires.more in
     let shape = rw (← c.self.view_is) at c.requires.shape in
     let fits = rw (← c.self.view_is) at c.requires.size in
-    rw (← c.self.view_is) (λ frozen.
-    written_kept _ _ c.args.log.now conversion c.read_due.ensures.held.bounds shape fits c.write_slot.ensures.wrote.changes c.self.invariant.there more)
+    rw (← c.self.view_is) (λ frozen. written_kept _ _ c.args.log.now conversion c.read_due.ensures.held.bounds shape fits c.write_slot.ensures.wrote.changes c.self.invariant.there more)
 
 pub returns-in-Err-write_slot-clause-frozen : goal.returns-in-Err-write_slot-clause-frozen
 returns-in-Err-write_slot-clause-frozen g c =
@@ -28,8 +22,7 @@ returns-in-Err-write_slot-clause-frozen g c =
 pub invariant_of-self-2 : goal.invariant_of-self-2
 invariant_of-self-2 g c =
     let more = rw (← c.self.view_is) at c.requires.more in
-    held_as (conversion_of c.self.inside) c.note_entry.new.tags c.self.inside.row.len c.in-Ok.puts c.update.new.self c.slot.result
-    c.self.invariant more c.in-Ok.ensures.most c.note_entry.ensures
+    held_as (conversion_of c.self.inside) c.note_entry.new.tags c.self.inside.row.len c.in-Ok.puts c.update.new.self c.slot.result c.self.invariant more c.in-Ok.ensures.most c.note_entry.ensures
 
 pub returns : goal.returns
 returns g c =
