@@ -1,14 +1,10 @@
 -- What the calls of a store do, from what the calls of its stores in memory do.
-use Rattle.silt_store_set.proofs.Common.{◌≡◌, ◌≤◌, ◌<◌, ℕ, ◌+◌, ◌^◌, Bool, true, false, IsTrue, List, [], ◌++◌, length, refl, ap, sym, ◌∙◌, subst, arith, LeavesOnly, MakesAtMost}
-use Rattle.silt_store_set.proofs.Common.{device_size, Ghosts, Command, Map, map_after, image_map, StandsFor, Stands, full_image, waiting_commands, EngineState, meaning, Event, Flush}
-use Rattle.silt_store_set.proofs.Common.{Refusal, Failed, Reply, Refused, Step, Counts, accepted_command, is_failed, BasisState, basis_kept, basis_of, IsCore, CoreState, map_of, Cause}
-use Rattle.silt_store_set.proofs.Common.{Durable, Does, MadeFor, convert_work, is_convert, is_merge, merge_work, most_syncs, most_writes}
-use Rattle.std.proofs.Common.{Err, Ok, length-append}
-use Rattle.silt_disk.proofs.Costs.{most_none}
-use Rattle.silt_engine.specs.Calls.{BreaksOff, HoldsPrefix, WorksBy}
+use Rattle.silt_store_set.proofs.Common.{◌≡◌, ◌≤◌, ◌<◌, ℕ, ◌+◌, ◌^◌, Bool, true, false, IsTrue, List, [], ◌++◌, length, refl, ap, sym, ◌∙◌, subst, arith, LeavesOnly, MakesAtMost, device_size}
+use Rattle.silt_store_set.proofs.Common.{Ghosts, Command, Map, map_after, image_map, StandsFor, Stands, full_image, waiting_commands, EngineState, meaning, Event, Flush, Refusal, Failed, Reply}
+use Rattle.silt_store_set.proofs.Common.{Refused, Step, Counts, accepted_command, is_failed, BasisState, basis_kept, basis_of, IsCore, CoreState, map_of, Cause, Durable, Does, MadeFor}
+use Rattle.silt_store_set.proofs.Common.{convert_work, is_convert, is_merge, merge_work, most_syncs, most_writes, Err, Ok, length-append, most_none, BreaksOff, HoldsPrefix, WorksBy, Device}
+use Rattle.silt_store_set.proofs.Common.{FailsBy, is_finished, is_refused}
 use Rattle.silt_engine.specs.Laws.{IsGoodWith}
-use Rattle.silt_event.specs.declared.refusal.Refusal.TheVariants.{Device}
-use Rattle.silt_store_set.specs.CoreState.{FailsBy, is_finished, is_refused}
 use Rattle.silt_store_set.proofs.Maps.{append_nil}
 
 -- what contracts see of a store with these fields that is not failed

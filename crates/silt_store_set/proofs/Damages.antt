@@ -1,13 +1,9 @@
 -- What the next step of merging reads, in the words of the manifest record.
-use Rattle.silt_store_set.proofs.Common.{◌≡◌, ℕ, ◌+◌, ◌-◌, ◌*◌, ◌<◌, ◌≤◌, nat_lt, if◌then◌else◌, Bool, List, drop, get_or, length, Option, IfSome, ap, subst, arith, cases_lt, length-map}
-use Rattle.silt_store_set.proofs.Common.{Shape, Place, regions_of, MergeState, oldest_stores, steps_of, place_read, IsMerging, EngineState, merge_work, place_due}
-use Rattle.std.proofs.Common.{◌/◌}
-use Rattle.std.proofs.lemmas.Bool.{le-ltb, lt-ltb}
-use Rattle.std.proofs.lemmas.List.{drop-map}
+use Rattle.silt_store_set.proofs.Common.{◌≡◌, ℕ, ◌+◌, ◌-◌, ◌*◌, ◌<◌, ◌≤◌, nat_lt, if◌then◌else◌, Bool, List, drop, get_or, length, Option, IfSome, ap, subst, arith, cases_lt, length-map, Shape}
+use Rattle.silt_store_set.proofs.Common.{Place, regions_of, MergeState, oldest_stores, steps_of, place_read, IsMerging, EngineState, merge_work, place_due, ◌/◌, le-ltb, lt-ltb, drop-map, AreWhole}
 use Rattle.std.proofs.lemmas.Nat.{div-mul-add, mul-add-lt}
 use Rattle.std.proofs.Math.Nat.{mul_comm}
 use Rattle.silt_event.specs.declared.place.Place.TheVariants.{HashDigest, SortedDigest}
-use Rattle.silt_standing.specs.State.{AreWhole}
 
 -- a slot before the end of the stores is a number below that of all slots
 pub slot_below : (store stores slot slots : ℕ) → store < stores → slot < slots → store * slots + slot < stores * slots

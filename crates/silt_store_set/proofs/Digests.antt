@@ -1,10 +1,9 @@
 -- The digests in memory, and the base, are those of the stores that are shown.
-use Rattle.silt_store_set.proofs.Common.{◌≡◌, IsTrue, Some, sym, Content, meaning, image_map, Stands, EngineState}
+use Rattle.silt_store_set.proofs.Common.{◌≡◌, IsTrue, Some, sym, Content, meaning, image_map, Stands, EngineState, map_of_rows, AreDigestsOf, rows_of, shown_stores}
 use Rattle.silt_engine.proofs.Said.{frozen_said}
 use Rattle.silt_engine.specs.Digests.{own_digests}
-use Rattle.silt_event.specs.Rows.{map_of_rows}
-use Rattle.silt_image.specs.Meaning.{AreDigestsOf, rows_of, with_new_log}
-use Rattle.silt_standing.specs.Standing.{base_map, shown_stores}
+use Rattle.silt_image.specs.Meaning.{with_new_log}
+use Rattle.silt_standing.specs.Standing.{base_map}
 
 -- those of the stores with any new log are, and a log has no digest
 pub own_said : (content : Content) (s : EngineState) → Stands content s → IsTrue content.honest → AreDigestsOf (Some (own_digests s)) (shown_stores content s)

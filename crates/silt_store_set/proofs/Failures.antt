@@ -1,6 +1,5 @@
 -- A store that failed after an acknowledged flush.
-use Rattle.std.proofs.Common.{arith}
-use Rattle.silt_store_set.proofs.Common.{◌≡◌, ℕ, false, List, [], ◌∷◌, ◌++◌, refl, ap, sym, ◌∙◌, Ghosts, Command, map_after, Flush, Acknowledged, CoreState, Does}
+use Rattle.silt_store_set.proofs.Common.{arith, ◌≡◌, ℕ, false, List, [], ◌∷◌, ◌++◌, refl, ap, sym, ◌∙◌, Ghosts, Command, map_after, Flush, Acknowledged, CoreState, Does}
 use Rattle.silt_store_set.specs.FailedLaw.{FailedLaw}
 
 -- a beginning of nothing is nothing

@@ -1,11 +1,6 @@
 -- What a flush does.
-use Rattle.silt_store_set.proofs.Common.{◌≡◌, ℕ, ◌*◌, [], refl, ap, subst, ◌∙◌, Ghosts, Stands, waiting_commands, EngineState, Flush, Acknowledged, Refused, basis_of, Makes, MakesAtMost}
-use Rattle.silt_store_set.proofs.Common.{Does, some_wait}
-use Rattle.silt_engine.specs.Calls.{BreaksOff, ChangesOnlyActive, WorksBy}
-use Rattle.silt_engine.specs.Costs.{row_waits}
-use Rattle.std.proofs.Common.{Err, Ok, Result}
-use Rattle.silt_standing.specs.Standing.{IsQuiet}
-use Rattle.silt_event.specs.declared.refusal.Refusal.TheVariants.{Device}
+use Rattle.silt_store_set.proofs.Common.{◌≡◌, ℕ, ◌*◌, [], refl, ap, subst, ◌∙◌, Ghosts, Stands, waiting_commands, EngineState, Flush, Acknowledged, Refused, basis_of, Makes, MakesAtMost, Does}
+use Rattle.silt_store_set.proofs.Common.{some_wait, BreaksOff, ChangesOnlyActive, WorksBy, row_waits, Err, Ok, Result, IsQuiet, Device}
 use Rattle.silt_store_set.proofs.Waits.{all_settled, waits_same}
 use Rattle.silt_store_set.proofs.Calls.{seen, seen_failed, advanced, broke}
 
@@ -26,9 +21,8 @@ module _ {D F : Type 0} (facts : Ghosts D F) (disk : D) (stores : EngineState) (
       let stays : waiting_commands (facts.content disk) stores ≡ [] → seen facts new after count ≡ seen facts disk stores count
       = λ none. let both = idle (all_settled (facts.content disk) stores.active.log stands.active.bounds none) in
       ap (λ (d : D). seen facts d after count) both.0 ∙ ap (λ (s : EngineState). seen facts disk s count) both.1 in
-      advanced facts _ _ _ _ disk new stores after stands v works count count Flush (Acknowledged count) (refl, refl) refl refl refl (refl, works.failures, stays) (λ m to e. e) (λ _ _. ap (λ
-      m. m.current) others.manifest) (λ _. others.converting) (λ _. others.merging) (λ _. quiet.none_wait) (subst (λ (n : ℕ). Makes facts.writes facts.syncs n (2 * n) disk new) waits
-      works.made)
+      advanced facts _ _ _ _ disk new stores after stands v works count count Flush (Acknowledged count) (refl, refl) refl refl refl (refl, works.failures, stays) (λ m to e. e) (λ _ _. ap (λ m.
+      m.current) others.manifest) (λ _. others.converting) (λ _. others.merging) (λ _. quiet.none_wait) (subst (λ (n : ℕ). Makes facts.writes facts.syncs n (2 * n) disk new) waits works.made)
 
   -- a sync or the write of the commit bytes failed
   pub flush_broke : {T : Type 0} (new : D) (after : EngineState) (fault : F) → Works {T = T} new after (Err fault) → BreaksOff facts disk new stores after fault

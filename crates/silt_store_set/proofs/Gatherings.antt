@@ -1,28 +1,20 @@
 -- If a merge is out of memory, the slot that it gathers next has the first row of a key, or the key that it decides next has a value.
-use Rattle.silt_store_set.proofs.Common.{◌≡◌, ℕ, zero, suc, ◌+◌, ◌-◌, ◌*◌, ◌<◌, ◌≤◌, true, IsTrue, List, [], ◌∷◌, ◌++◌, drop, length, map, take, get_or, Option, Some, None, IsSomeAnd, refl}
-use Rattle.silt_store_set.proofs.Common.{sym, subst, ap, ◌∙◌, arith, append_assoc, length-map, Content, Shape, StoredRow, hash_rows, all_rows, Body, regions_of, MergeState, oldest_stores}
-use Rattle.silt_store_set.proofs.Common.{steps_of, GathersRow, TakesKey, full_stores, merge_sources, HasGathered, Stands, IsMerging, EngineState, sources_full, taken_sound}
-use Rattle.std.proofs.Common.{filter, flat_map, slice_get, suc-mul}
-use Rattle.std.specs.Option.{option_or}
-use Rattle.std.proofs.lemmas.List.{length-append, take-append-drop}
+use Rattle.silt_store_set.proofs.Common.{◌≡◌, ℕ, zero, suc, ◌+◌, ◌-◌, ◌*◌, ◌<◌, ◌≤◌, true, IsTrue, List, [], ◌∷◌, ◌++◌, drop, length, map, take, get_or, Option, Some, None, IsSomeAnd, refl, sym}
+use Rattle.silt_store_set.proofs.Common.{subst, ap, ◌∙◌, arith, append_assoc, length-map, Content, Shape, StoredRow, hash_rows, all_rows, Body, regions_of, MergeState, oldest_stores, steps_of}
+use Rattle.silt_store_set.proofs.Common.{GathersRow, TakesKey, full_stores, merge_sources, HasGathered, Stands, IsMerging, EngineState, sources_full, taken_sound, filter, flat_map, slice_get}
+use Rattle.silt_store_set.proofs.Common.{suc-mul, option_or, length-append, take-append-drop, newest_row, has_known_kind, is_put_row, hash_part, rows_before, slot_row, newest_rows, rows_of_hashes}
+use Rattle.silt_store_set.proofs.Common.{source_at, full_is, sorted_shape, HasNewKey}
 use Rattle.std.proofs.lemmas.List.Elements.{filter-append}
 use Rattle.std.proofs.lemmas.Option.{slice_get-get_or}
 use Rattle.std.proofs.Math.Seq.{get_or-append_seam, take-append_seam}
-use Rattle.silt_event.specs.Rows.{newest_row}
-use Rattle.silt_frame.specs.Rows.{has_known_kind, is_put_row}
-use Rattle.silt_hash_store.specs.Slots.{hash_part, rows_before, slot_row}
 use Rattle.silt_hash_store.specs.State.{HashState}
 use Rattle.silt_hash_store.proofs.Slotting.{all_before, before_count, before_more, before_taken}
 use Rattle.silt_image.specs.Meaning.{with_log_rows}
 use Rattle.silt_image.specs.Stores.{stores_named}
 use Rattle.silt_log.specs.Parts.{part_rows}
 use Rattle.silt_merge.specs.Merging.{IsMergedIn, gathered_rows}
-use Rattle.silt_merge.specs.Rows.{newest_rows, rows_of_hashes}
-use Rattle.silt_merge.specs.State.{source_at}
 use Rattle.silt_merge.proofs.Newest.{newest_append}
-use Rattle.silt_engine.proofs.MergeDone.{full_is, sorted_shape}
 use Rattle.silt_engine.proofs.MergeStores.{taken_named}
-use Rattle.silt_store_set.specs.CoreState.{HasNewKey}
 
 -- ---- lists one after the other
 
@@ -176,7 +168,6 @@ module _ (content : Content) (s : EngineState) (stands : Stands content s) (hone
         let long : length regions ≡ merge.stores = length-map stores (λ store. store.region) ∙ merged.0.counted in
         let steps : steps_of merge ≡ merge.store * (4 * s.manifest.shape.buckets) + merge.slot =
         omega (arith, way.held.gathers takes.gathers, ap (λ (sh : Shape). merge.store * (4 * sh.buckets)) way.has_shape) in
-        rw (← (slots_taken merge.stores)) at (next_slot s.manifest.shape content.shown regions merge.store merge.slot (steps_of merge)
-        (omega (arith, takes.gathers, long)) (subst (λ (sh : Shape). merge.slot < 4 * sh.buckets) way.has_shape way.held.slot) steps (subst (λ (sh : Shape).
-        has_known_kind (due_in sh) ≡ true) way.has_shape (takes.known honest)) (none_gathered (due_in s.manifest.shape).key (subst (λ (sh : Shape). source_at
-        merge.waiting (due_in sh).key ≡ None) way.has_shape (takes.new_key honest))))
+        rw (← (slots_taken merge.stores)) at (next_slot s.manifest.shape content.shown regions merge.store merge.slot (steps_of merge) (omega (arith, takes.gathers, long)) (subst (λ (sh : Shape).
+        merge.slot < 4 * sh.buckets) way.has_shape way.held.slot) steps (subst (λ (sh : Shape). has_known_kind (due_in sh) ≡ true) way.has_shape (takes.known honest)) (none_gathered (due_in
+        s.manifest.shape).key (subst (λ (sh : Shape). source_at merge.waiting (due_in sh).key ≡ None) way.has_shape (takes.new_key honest))))

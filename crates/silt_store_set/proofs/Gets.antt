@@ -1,10 +1,8 @@
 -- What a get returns.
 use Rattle.silt_store_set.proofs.Common.{◌≡◌, ℕ, Bool, true, false, IsTrue, List, Option, Some, None, Ok, refl, ap, sym, ◌∙◌, get, GaveAny, Ghosts, Key, Map, image_map, Stands, base_map}
-use Rattle.silt_store_set.proofs.Common.{current_map, full_image, waiting_commands, EngineState, meaning, Step, Get, Refusal, Found, Absent, Refused, Does, none_made}
-use Rattle.std.proofs.Common.{not}
+use Rattle.silt_store_set.proofs.Common.{current_map, full_image, waiting_commands, EngineState, meaning, Step, Get, Refusal, Found, Absent, Refused, Does, none_made, not, Device, NoMemory}
 use Rattle.silt_engine.specs.Lookup.{changes_key}
 use Rattle.silt_engine.proofs.Waits.{others_stay}
-use Rattle.silt_event.specs.declared.refusal.Refusal.TheVariants.{Device, NoMemory}
 use Rattle.silt_store_set.specs.Replies.{ReadCause, get_reply}
 use Rattle.silt_store_set.proofs.Calls.{seen, answered, refused}
 
@@ -37,8 +35,7 @@ module _ {D F : Type 0} (facts : Ghosts D F) (disk : D) (stores : EngineState) (
   -- if no waiting command changes the key, the base has what the map has
   kept : (value : Option (List ℕ)) → changes_key (waiting_commands (facts.content disk) stores) key.0 ≡ false → IsTrue (facts.content disk).honest
       → get (current_map (facts.content disk) stores) key.0 ≡ value → get (image_map (facts.content disk).shown) key.0 ≡ value
-  kept value none h found =
-      cc ((meaning (facts.content disk) stores stands).shown h, others_stay (base_map (facts.content disk) stores) (waiting_commands (facts.content disk) stores) key.0 none)
+  kept value none h found = cc ((meaning (facts.content disk) stores stands).shown h, others_stay (base_map (facts.content disk) stores) (waiting_commands (facts.content disk) stores) key.0 none)
 
   -- so it gives the answer of the lookup
   pub get_kept : (found is_settled : Bool) (out : List ℕ) → (found ≡ true → IsTrue (facts.content disk).honest → get (current_map (facts.content disk) stores) key.0 ≡ Some out)

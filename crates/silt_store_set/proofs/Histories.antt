@@ -1,10 +1,8 @@
 -- Lives, from their openings, runs and crashes.
-use Rattle.silt_store_set.proofs.Common.{◌≡◌, ℕ, ◌+◌, false, IsTrue, List, [], ◌∷◌, ◌++◌, length, Vec, refl, ap, sym, ◌∙◌, subst, arith, Global, Content, Left, LeavesOnly, Restarts, Shape}
-use Rattle.silt_store_set.proofs.Common.{Event, LifeReply, NotOpened, Opened, Refusal, Reply, Map, map_after, LivesHistory, CoreState, map_of, Runs, Opens, IsSafe, Ghosts, StandsFor}
-use Rattle.silt_store_set.proofs.Common.{SameDisk, LeavesNoOther, OpeningCause}
+use Rattle.silt_store_set.proofs.Common.{◌≡◌, ℕ, ◌+◌, false, IsTrue, List, [], ◌∷◌, ◌++◌, length, Vec, refl, ap, sym, ◌∙◌, subst, arith, Global, Content, Left, LeavesOnly, Restarts, Shape, Event}
+use Rattle.silt_store_set.proofs.Common.{LifeReply, NotOpened, Opened, Refusal, Reply, Map, map_after, LivesHistory, CoreState, map_of, Runs, Opens, IsSafe, Ghosts, StandsFor, SameDisk}
+use Rattle.silt_store_set.proofs.Common.{LeavesNoOther, OpeningCause, NoMemory, LifeHistory}
 use Rattle.silt_disk.proofs.Images.{shown_left, left_at_rest}
-use Rattle.silt_event.specs.declared.refusal.Refusal.TheVariants.{NoMemory}
-use Rattle.silt_event.specs.Events.{LifeHistory}
 use Rattle.silt_store_set.proofs.Keeps.{keeps_runs, nines}
 use Rattle.silt_store_set.proofs.Openings.{opening_refused}
 use Rattle.silt_store_set.proofs.Runs.{legal_runs}

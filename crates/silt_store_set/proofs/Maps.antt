@@ -1,6 +1,5 @@
 -- Maps after commands.
-use Rattle.silt_store_set.proofs.Common.{◌≡◌, List, [], ◌∷◌, ◌++◌, refl, ap, Command, Map, map_after}
-use Rattle.silt_event.specs.Commands.{changed}
+use Rattle.silt_store_set.proofs.Common.{◌≡◌, List, [], ◌∷◌, ◌++◌, refl, ap, Command, Map, map_after, changed}
 
 pub map_after-append : (m : Map) (some more : List Command) → map_after m (some ++ more) ≡ map_after (map_after m some) more
 map_after-append m [] more = refl

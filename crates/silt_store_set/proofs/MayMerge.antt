@@ -1,8 +1,6 @@
 -- Whether a step of merging may be done, by what is in memory.
 use Rattle.silt_store_set.proofs.Common.{◌≡◌, ℕ, Bool, true, false, ◌||◌, Option, Some, None, length, refl, ap, sym, ◌∙◌, is_some, length-map, Ghosts, convert_turn, MergeState, Stands}
-use Rattle.silt_store_set.proofs.Common.{EngineState, hash_region_of, CoreState, awaits_region, merge_work, BasisState}
-use Rattle.std.specs.Prelude.{nat_le}
-use Rattle.silt_store_set.specs.CoreState.{may_merge, wants_merge}
+use Rattle.silt_store_set.proofs.Common.{EngineState, hash_region_of, CoreState, awaits_region, merge_work, BasisState, nat_le, may_merge, wants_merge}
 use Rattle.silt_store_set.proofs.Calls.{seen, seen_core}
 use Rattle.silt_store_set.proofs.Converts.{due_same}
 

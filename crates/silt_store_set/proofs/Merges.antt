@@ -1,28 +1,19 @@
 -- What a step of merging does, from what the same step of the stores in memory does.
 use Rattle.silt_store_set.proofs.Common.{◌≡◌, ℕ, ◌+◌, ◌-◌, ◌*◌, ◌==◌, inl, inr, Bool, false, true, IsTrue, IsSomeAnd, length, Option, Some, None, IfSome, refl, ap, sym, ◌∙◌, arith, eqb-true}
-use Rattle.silt_store_set.proofs.Common.{length-map, MakesAtMost, none_made, Shape, Ghosts, Merge, Idle, Waiting, Moved, Finished, Place, Spent, Progress, Refused, Refusal, key_count}
-use Rattle.silt_store_set.proofs.Common.{MergeState, oldest_stores, steps_of, GathersRow, TakesKey, IsLastGeneration, is_work, step_syncs, step_writes, damaged_in, full_stores}
-use Rattle.silt_store_set.proofs.Common.{merge_sources, place_read, HasGathered, Stands, IsMerging, EngineState, hash_region_of, meaning, basis_of, CoreState, Does, MadeFor, entries_written}
-use Rattle.silt_store_set.proofs.Common.{merge_work, place_due}
-use Rattle.std.proofs.Common.{◌⊎◌, Err, Ok, Result}
-use Rattle.std.specs.Option.{option_map}
-use Rattle.std.proofs.lemmas.Bool.{cases_Bool, eq-eqb}
-use Rattle.silt_disk.proofs.Costs.{most_more}
+use Rattle.silt_store_set.proofs.Common.{length-map, MakesAtMost, none_made, Shape, Ghosts, Merge, Idle, Waiting, Moved, Finished, Place, Spent, Progress, Refused, Refusal, key_count, MergeState}
+use Rattle.silt_store_set.proofs.Common.{oldest_stores, steps_of, GathersRow, TakesKey, IsLastGeneration, is_work, step_syncs, step_writes, damaged_in, full_stores, merge_sources, place_read}
+use Rattle.silt_store_set.proofs.Common.{HasGathered, Stands, IsMerging, EngineState, hash_region_of, meaning, basis_of, CoreState, Does, MadeFor, entries_written, merge_work, place_due, ◌⊎◌, Err}
+use Rattle.silt_store_set.proofs.Common.{Ok, Result, option_map, cases_Bool, eq-eqb, most_more, Damaged, Device, NoMemory, merged_rows, is_done, TakesMemory, EndsMerged, HasMergedEntries}
+use Rattle.silt_store_set.proofs.Common.{IsDoneBySteps, IsNextMerge, MayLackMemory, MergeErrorCause, Merges, MergesOn, WorksOfMerge, merge_progress, merge_turn, merged_body, DecidesValue}
+use Rattle.silt_store_set.proofs.Common.{GathersNewKey, GathersNext, IsMergeDue, MergeGoesOn, MergeLacksMemory, MayFind, found_damaged, has_decided, merge_due}
 use Rattle.silt_event.specs.declared.progress.Progress.{Progress as ProgressOf}
-use Rattle.silt_event.specs.declared.refusal.Refusal.TheVariants.{Damaged, Device, NoMemory}
-use Rattle.silt_merge.specs.Rows.{merged_rows}
-use Rattle.silt_merge.specs.State.{is_done}
-use Rattle.silt_merge.specs.Steps.{TakesMemory}
-use Rattle.silt_engine.specs.Costs as engine
 use Rattle.silt_engine.specs.declared.merge.MergeError.{MergeError}
 use Rattle.silt_engine.specs.declared.merge.MergeError.TheVariants.{Read, Write}
-use Rattle.silt_engine.specs.declared.merge.MergeError.TheVariants as error
-use Rattle.silt_engine.specs.Merge.{EndsMerged, HasMergedEntries, IsDoneBySteps, IsNextMerge, MayLackMemory, MergeErrorCause, Merges, MergesOn, WorksOfMerge, merge_progress, merge_turn}
-use Rattle.silt_engine.specs.Merge.{merged_body}
-use Rattle.silt_store_set.specs.CoreState.{DecidesValue, GathersNewKey, GathersNext, IsMergeDue, MergeGoesOn, MergeLacksMemory, MayFind, found_damaged, has_decided, merge_due}
 use Rattle.silt_store_set.proofs.Calls.{seen, seen_failed, advanced, answered, broke, refused}
 use Rattle.silt_store_set.proofs.Damages.{place_seen, slot_below}
 use Rattle.silt_store_set.proofs.Gatherings.{decides_next, new_key_next}
+use Rattle.silt_engine.specs.Costs as engine
+use Rattle.silt_engine.specs.declared.merge.MergeError.TheVariants as error
 
 -- a test is equality if it is true exactly when the two numbers are the same
 tells_same : (a b : ℕ) (c : Bool) → (c ≡ true → a ≡ b) → (a ≡ b → c ≡ true) → (a == b) ≡ c
@@ -167,8 +158,7 @@ module _ {D F : Type 0} (facts : Ghosts D F) (disk : D) (stores : EngineState) (
 
   -- why a step that goes on is out of memory, in the contracts' view
   abbrev Lacks : Option MergeState → Type 0
-  Lacks o =
-      (GathersNext stores.manifest.shape (merge_work o) × (IsTrue (facts.content disk).honest → GathersNewKey before (merge_work o))) ⊎ IsSomeAnd (merge_work o) (DecidesValue facts before)
+  Lacks o = (GathersNext stores.manifest.shape (merge_work o) × (IsTrue (facts.content disk).honest → GathersNewKey before (merge_work o))) ⊎ IsSomeAnd (merge_work o) (DecidesValue facts before)
 
   -- a merge that gathers a slot has not gathered all of them, and what it gathers is the first row of a key
   lacks_row : (merge : MergeState) → IsMerging stores merge → HasGathered (facts.content disk) stores merge

@@ -1,5 +1,6 @@
 -- Work in progress as contracts see it has the numbers of the work in memory.
-use Rattle.silt_store_set.proofs.Common.{◌≡◌, Option, Some, None, refl, ConversionState, MergeState, convert_work, merge_work}
+use Rattle.silt_store_set.proofs.Common.{◌≡◌, Option, Some, None, refl, MergeState, convert_work, merge_work}
+use Rattle.silt_conversion.specs.Conversion.{ConversionState}
 use Rattle.silt_engine.specs.Numbers.{merge_steps, slots_converted}
 use Rattle.silt_store_set.specs.Facts.{slots_written, steps_taken}
 

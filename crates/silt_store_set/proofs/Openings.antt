@@ -1,10 +1,7 @@
 -- What opening returns, from what recovery finds.
-use Rattle.silt_store_set.proofs.Common.{◌≡◌, IsTrue, [], Option, Some, None, refl, ap, sym, ◌∙◌, arith, Content, Ghosts, map_after, LogState, waiting_rows, waiting_commands, EngineState}
-use Rattle.silt_store_set.proofs.Common.{meaning, Opens, convert_work, merge_work, OpeningCause, Refusal}
-use Rattle.silt_image.specs.Meaning.{IsGood}
+use Rattle.silt_store_set.proofs.Common.{◌≡◌, IsTrue, [], Option, Some, None, refl, ap, sym, ◌∙◌, arith, Content, Ghosts, map_after, LogState, waiting_rows, waiting_commands, EngineState, meaning}
+use Rattle.silt_store_set.proofs.Common.{Opens, convert_work, merge_work, OpeningCause, Refusal, IsGood, TakesUp, IsOpeningRefusal}
 use Rattle.silt_log.specs.Rows.{rows_from}
-use Rattle.silt_recovery.specs.Opening.{TakesUp}
-use Rattle.silt_event.specs.Events.{IsOpeningRefusal}
 use Rattle.silt_store_set.proofs.Calls.{seen, stands_seen}
 
 -- ---- why an opening is refused

@@ -1,27 +1,22 @@
 -- What a put or a delete does, from what taking its row does.
-use Rattle.silt_store_set.proofs.Common.{◌≡◌, ◌≢◌, ◌<◌, ◌≤◌, ℕ, ◌*◌, Bool, true, if◌then◌else◌, Option, ◌+◌, ◌^◌, inl, inr, false, IsTrue, List, [], ◌∷◌, length, refl, ap, sym, ◌∙◌, subst}
-use Rattle.silt_store_set.proofs.Common.{arith, length-map, Makes, MakesAtMost, Ghosts, Key, Command, command_of, StoredRow, all_rows, Body, SameDisk, Stands, full_image, waiting_commands}
-use Rattle.silt_store_set.proofs.Common.{EngineState, region_of, meaning, Put, Delete, Refusal, Spent, Accepted, Refused, is_failed, basis_of, progress_due, Idle, Shape, CoreState, Cause}
-use Rattle.silt_store_set.proofs.Common.{convert_due, convert_work, written_of, Does, MakesRow, most_syncs, most_writes, some_wait}
-use Rattle.std.proofs.lemmas.Bool.{ne_eqb}
+use Rattle.silt_store_set.proofs.Common.{◌≡◌, ◌≢◌, ◌<◌, ◌≤◌, ℕ, ◌*◌, Bool, true, if◌then◌else◌, Option, ◌+◌, ◌^◌, inl, inr, false, IsTrue, List, [], ◌∷◌, length, refl, ap, sym, ◌∙◌, subst, arith}
+use Rattle.silt_store_set.proofs.Common.{length-map, Makes, MakesAtMost, Ghosts, Key, Command, command_of, StoredRow, all_rows, Body, SameDisk, Stands, full_image, waiting_commands, EngineState}
+use Rattle.silt_store_set.proofs.Common.{region_of, meaning, Put, Delete, Refusal, Spent, Accepted, Refused, is_failed, basis_of, progress_due, Idle, Shape, CoreState, Cause, convert_due}
+use Rattle.silt_store_set.proofs.Common.{convert_work, written_of, Does, MakesRow, most_syncs, most_writes, some_wait, ne_eqb, stored_row, CannotTake, WorksBy, Err, Ok, Result, Device, NoMemory}
+use Rattle.silt_store_set.proofs.Common.{NoRoom, InLimits, AreAllInUse, Freezes, HasFreeLog, IsStuck, MayWrite, NoRowCause, Takes, row_event}
 use Rattle.silt_frame.specs.declared.key.Kind.{Kind}
-use Rattle.silt_frame.specs.declared.key.Kind.TheVariants as kind
 use Rattle.silt_log.specs.Rows.{log_rows}
-use Rattle.silt_frame.specs.Rows.{stored_row}
-use Rattle.silt_engine.specs.Calls.{HasNoFreeLog as AllInUse, CannotTake, WorksBy}
+use Rattle.silt_engine.specs.Calls.{HasNoFreeLog as AllInUse}
 use Rattle.silt_engine.specs.NextLog.{IsLowestFree, next_body}
 use Rattle.silt_engine.specs.RowWrite.{CountsRow, NeedsNext, WriteCause, WritesKey}
 use Rattle.silt_engine.specs.declared.row_write.WriteError.{WriteError}
 use Rattle.silt_engine.specs.declared.row_write.WriteError.TheVariants.{Read, Write}
-use Rattle.silt_engine.specs.declared.row_write.WriteError.TheVariants as error
-use Rattle.std.proofs.Common.{Err, Ok, Result}
-use Rattle.silt_engine.specs.Costs as engine
-use Rattle.silt_event.specs.declared.refusal.Refusal.TheVariants.{Device, NoMemory, NoRoom}
 use Rattle.silt_event.specs.declared.progress.Progress.{Progress as ProgressOf}
-use Rattle.silt_disk.specs.Layout.{InLimits}
-use Rattle.silt_store_set.specs.CoreState.{AreAllInUse, Freezes, HasFreeLog, IsStuck, MayWrite, NoRowCause, Takes, row_event}
 use Rattle.silt_store_set.proofs.Waits.{waits_same}
 use Rattle.silt_store_set.proofs.Calls.{seen, seen_failed, advanced, broke, refused}
+use Rattle.silt_frame.specs.declared.key.Kind.TheVariants as kind
+use Rattle.silt_engine.specs.declared.row_write.WriteError.TheVariants as error
+use Rattle.silt_engine.specs.Costs as engine
 
 -- a store that may write is not failed
 pub may_working : {D : Type 0} (k : Kind) (core : CoreState D) → MayWrite k core → core.failed ≡ false
@@ -164,7 +159,6 @@ module _ {D F : Type 0} (facts : Ghosts D F) (disk : D) (stores : EngineState) (
       broke facts _ _ _ _ disk new stores after stands (Write fault) count (row_event k key value) fault works off
       (λ fails. no_row (left_by new after (Write fault)) k key value (Write fault) may (inr fails)) (row_most new k key value works.made)
   row_refused new after k key value (Read fault) least may works err = kept new after k key value (Read fault) may err.0 (inl (record { given = err.1; working = refl; same = refl })) refl
-  row_refused new after k key value error.NoRoom least may works err =
-      kept new after k key value error.NoRoom may err.0 (stopped before key.0 err.1, all_in_use err.2, frozen_due least err.2) refl
+  row_refused new after k key value error.NoRoom least may works err = kept new after k key value error.NoRoom may err.0 (stopped before key.0 err.1, all_in_use err.2, frozen_due least err.2) refl
   row_refused new after k key value error.Spent least may works err = kept new after k key value error.Spent may err.0 (stopped before key.0 err.1, has_free err.2, err.3) refl
   row_refused new after k key value error.NoMemory least may works err = kept new after k key value error.NoMemory may err.0 (stopped before key.0 err.1, has_free err.2, err.3) refl

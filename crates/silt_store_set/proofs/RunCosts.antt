@@ -1,14 +1,10 @@
 -- How many writes and syncs runs make, from what each call makes.
-use Rattle.silt_store_set.proofs.Common.{sym, ◌≡◌, ◌≤◌, ℕ, zero, suc, ◌+◌, ◌*◌, Bool, true, false, IsTrue, List, [], ◌∷◌, ◌++◌, length, Option, Some, None, refl, ap, ◌∙◌, subst, arith}
-use Rattle.silt_store_set.proofs.Common.{Ghosts, none_made, Command, Event, Put, Delete, Swap, Flush, Get, Convert, Merge, Moved, Finished, Reply, Accepted, Acknowledged, Found, Absent}
-use Rattle.silt_store_set.proofs.Common.{Differs, Progress, Refused, accepted_command, accepted_commands, ConvertGoesOn, CoreState, Does, MakesRow, Runs, entries_written, is_convert}
-use Rattle.silt_store_set.proofs.Common.{is_merge, some_wait, eqb-true, Body, progress_due}
-use Rattle.std.specs.Prelude.{◌&&◌}
+use Rattle.silt_store_set.proofs.Common.{sym, ◌≡◌, ◌≤◌, ℕ, zero, suc, ◌+◌, ◌*◌, Bool, true, false, IsTrue, List, [], ◌∷◌, ◌++◌, length, Option, Some, None, refl, ap, ◌∙◌, subst, arith, Ghosts}
+use Rattle.silt_store_set.proofs.Common.{none_made, Command, Event, Put, Delete, Swap, Flush, Get, Convert, Merge, Moved, Finished, Reply, Accepted, Acknowledged, Found, Absent, Differs, Progress}
+use Rattle.silt_store_set.proofs.Common.{Refused, accepted_command, accepted_commands, ConvertGoesOn, CoreState, Does, MakesRow, Runs, entries_written, is_convert, is_merge, some_wait, eqb-true}
+use Rattle.silt_store_set.proofs.Common.{Body, progress_due, ◌&&◌, made_both, ConvertWork, HasMade, WritesRow, length-append}
 use Rattle.std.specs.List.{list_all}
-use Rattle.silt_disk.proofs.Costs.{made_both}
-use Rattle.silt_store_set.specs.CoreState.{ConvertWork, HasMade, WritesRow}
 use Rattle.silt_store_set.specs.Costs.{RowsMade, RunMade, is_foreground, settles_by, settling, to_the_end, waits_after}
-use Rattle.std.proofs.lemmas.List.{length-append}
 
 -- behind other commands a command waits
 waits_behind : (commands : List Command) (command : Command) → some_wait (commands ++ command ∷ []) ≡ 1
@@ -141,9 +137,8 @@ module _ {D F : Type 0} (facts : Ghosts D F) where
       let there : IsTrue (facts.content next.disk).honest = subst IsTrue (sym runs.1.disk.honest) h in
       let one = call_made old next event reply h fronts.0 was working runs.1 in
       let rest = rows_made next new events replies there fronts.1 is runs.2 in
-      let after : HasMade facts next new (2 * length (accepted_commands events replies) + settling (waits_after (some_wait old.waiting) reply) replies + 4 * rest.freezes + rest.waited)
-      (2 * settling (waits_after (some_wait old.waiting) reply) replies + 4 * rest.freezes + 2 * rest.waited)
-      = rw one.waits at rest.made in
+      let after : HasMade facts next new (2 * length (accepted_commands events replies) + settling (waits_after (some_wait old.waiting) reply) replies + 4 * rest.freezes + rest.waited) (2 *
+      settling (waits_after (some_wait old.waiting) reply) replies + 4 * rest.freezes + 2 * rest.waited) = rw one.waits at rest.made in
       let long : length (accepted_command event reply ++ accepted_commands events replies) ≡ length (accepted_command event reply) + length (accepted_commands events replies)
       = length-append (accepted_command event reply) (accepted_commands events replies) in
       record {

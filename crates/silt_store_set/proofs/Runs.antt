@@ -1,6 +1,5 @@
 -- Runs of events, from what each call does.
-use Rattle.silt_store_set.proofs.Common.{subst, sym, ◌≡◌, Bool, IsTrue, List, [], ◌∷◌, ◌++◌, refl, ap, Ghosts, Event, Reply, Step, Legal, CoreState, map_of, Does, Runs}
-use Rattle.std.proofs.Common.{arith}
+use Rattle.silt_store_set.proofs.Common.{subst, sym, ◌≡◌, Bool, IsTrue, List, [], ◌∷◌, ◌++◌, refl, ap, Ghosts, Event, Reply, Step, Legal, CoreState, map_of, Does, Runs, arith}
 use Rattle.silt_store_set.proofs.Calls.{step_refused}
 
 module _ {D F : Type 0} (facts : Ghosts D F) where

@@ -1,9 +1,6 @@
 -- A merge in progress has a step left.
 use Rattle.silt_store_set.proofs.Common.{◌≡◌, ◌≤◌, ℕ, ◌+◌, ◌*◌, Bool, false, IsTrue, Option, Some, None, IfSome, inl, inr, arith, cases_lt, Ghosts, key_count, MergeState, oldest_stores}
-use Rattle.silt_store_set.proofs.Common.{sources_full, taken_sound, HasGathered, Stands, EngineState, IsMerging, BasisState, IsCore, CoreState, merge_work}
-use Rattle.silt_merge.specs.Rows.{sources}
-use Rattle.silt_merge.specs.State.{IsHeldMerge}
-use Rattle.silt_store_set.specs.CoreState.{IsWithinSteps}
+use Rattle.silt_store_set.proofs.Common.{sources_full, taken_sound, HasGathered, Stands, EngineState, IsMerging, BasisState, IsCore, CoreState, merge_work, sources, IsHeldMerge, IsWithinSteps}
 use Rattle.silt_store_set.proofs.Calls.{seen, seen_core}
 use Rattle.silt_store_set.proofs.Damages.{slot_below}
 

@@ -1,12 +1,10 @@
 -- Whether a command waits, by the numbers of the active log.
 use Rattle.silt_store_set.proofs.Common.{◌≡◌, Bool, false, true, List, [], ◌∷◌, map, nat_lt, cond, refl, ap, sym, arith, length-map, Content, Command, command_of, LogState, waiting_rows}
-use Rattle.silt_store_set.proofs.Common.{EngineState, waiting_commands, some_wait}
+use Rattle.silt_store_set.proofs.Common.{EngineState, waiting_commands, some_wait, nat_tests, InBounds}
 use Rattle.std.proofs.lemmas.List.FromFn.{length-map-range_with_len}
-use Rattle.std.proofs.lemmas.Bool.Decides.{nat_tests}
 use Rattle.silt_log.specs.Rows.{rows_from}
-use Rattle.silt_log.specs.State.{InBounds}
-use Rattle.silt_engine.specs.Costs as engine
 use Rattle.silt_store_set.proofs.Openings.{none_wait}
+use Rattle.silt_engine.specs.Costs as engine
 
 -- if no command waits, all rows are settled
 pub all_settled : (content : Content) (log : LogState) → InBounds log → map command_of (waiting_rows content log) ≡ [] → log.settled ≡ log.used

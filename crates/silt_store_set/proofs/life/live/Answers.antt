@@ -1,6 +1,4 @@
-use Rattle.silt_store_set.proofs.Common.{◌≡◌, ℕ, ap, sym, subst, ◌∙◌, Shape}
-use Rattle.std.proofs.Common.{slice_index_or}
-use Rattle.silt_event.specs.Events.{HasValueOf}
+use Rattle.silt_store_set.proofs.Common.{◌≡◌, ℕ, ap, sym, subst, ◌∙◌, Shape, slice_index_or, HasValueOf}
 use Rattle.silt_store_set.proofs.Histories.{life_unopened, life_idle, life_ran, opened_len}
 use Rattle.silt_store_set.proofs.Livings.{ends_idle, ends_other, ends_ran, ends_refused}
 use Rattle.silt_store_set.proofs.life.live.Goals as goal
@@ -10,14 +8,12 @@ returns-in-Err-clause-life g c = λ m starts. life_unopened g.D.Disk (g.D.Disk.c
     c.in-Err.field-0.disk c.in-Err.field-0.refusal (g.D.Disk.content c.restart.result) c.in-Err.ensures.images c.in-Err.ensures.cause c.restart.ensures.content
 
 pub returns-then-value_len-clause-life : goal.returns-then-value_len-clause-life
-returns-then-value_len-clause-life g c = λ m starts.
-    absurd (c.if-value_len.true (c.value_len.ensures.value ∙ ap (λ (s : Shape). s.value_len) c.geometry.ensures
+returns-then-value_len-clause-life g c = λ m starts. absurd (c.if-value_len.true (c.value_len.ensures.value ∙ ap (λ (s : Shape). s.value_len) c.geometry.ensures
     ∙ opened_len g.D.Disk (g.D.Disk.content c.args.disk) c.args.value_len m starts.honest starts.safe c.args.events.now c.in-Ok.core c.in-Ok.ensures.ok))
 
 pub returns-in-Ok-run-clause-life : goal.returns-in-Ok-run-clause-life
-returns-in-Ok-run-clause-life g c = λ m starts.
-    life_ran g.D.Disk (g.D.Disk.content c.args.disk) c.args.value_len m starts.honest starts.safe c.args.events.now
-    c.in-Ok.core c.run.new.self c.in-Ok-run.replies (g.D.Disk.content c.stop-in-Ok-run.result) c.in-Ok.ensures.ok c.in-Ok-run.ensures.runs c.stop-in-Ok-run.ensures c.run.ensures.same
+returns-in-Ok-run-clause-life g c = λ m starts. life_ran g.D.Disk (g.D.Disk.content c.args.disk) c.args.value_len m starts.honest starts.safe c.args.events.now c.in-Ok.core c.run.new.self
+    c.in-Ok-run.replies (g.D.Disk.content c.stop-in-Ok-run.result) c.in-Ok.ensures.ok c.in-Ok-run.ensures.runs c.stop-in-Ok-run.ensures c.run.ensures.same
 
 pub returns-in-Err-run-clause-life : goal.returns-in-Err-run-clause-life
 returns-in-Err-run-clause-life g c = λ m starts.

@@ -1,5 +1,4 @@
-use Rattle.silt_store_set.proofs.Common.{◌≡◌, take, LeavesOnly, Map, LivesHistory, IsSafe}
-use Rattle.silt_store_set.specs.Living.{StartsFrom}
+use Rattle.silt_store_set.proofs.Common.{◌≡◌, take, LeavesOnly, Map, LivesHistory, IsSafe, StartsFrom}
 use Rattle.silt_store_set.proofs.Livings.{LivesTo}
 use Rattle.silt_store_set.proofs.life.lives.Given as goal
 

@@ -1,6 +1,4 @@
-use Rattle.silt_store_set.proofs.Common.{◌≡◌, ◌≤◌, ℕ, List, length, take, sym, ◌∙◌, ap, refl}
-use Rattle.std.proofs.Common.{replicate}
-use Rattle.std.proofs.lemmas.List.{length-replicate, take-replicate}
+use Rattle.silt_store_set.proofs.Common.{◌≡◌, ◌≤◌, ℕ, List, length, take, sym, ◌∙◌, ap, refl, replicate, length-replicate, take-replicate}
 use Rattle.silt_store_set.proofs.replies.zeros.Goals as goal
 
 -- the first of some zeros are zeros

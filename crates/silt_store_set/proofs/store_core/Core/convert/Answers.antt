@@ -1,7 +1,7 @@
 use Rattle.silt_store_set.proofs.Common.{arith}
-use Rattle.silt_engine.specs.declared.conversion.ConvertError.TheVariants as error
 use Rattle.silt_store_set.proofs.Calls.{core_broke, core_went, refused_failed}
 use Rattle.silt_store_set.proofs.Converts.{not_stepped, stepped}
+use Rattle.silt_engine.specs.declared.conversion.ConvertError.TheVariants as error
 use Rattle.silt_store_set.proofs.store_core.Core.convert.Goals as goal
 
 pub returns-then-self : goal.returns-then-self

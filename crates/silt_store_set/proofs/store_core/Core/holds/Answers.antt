@@ -1,5 +1,4 @@
-use Rattle.silt_store_set.proofs.Common.{Ok, ap, refl}
-use Rattle.std.proofs.lemmas.Bool.Decides.{Decides-eqb}
+use Rattle.silt_store_set.proofs.Common.{Ok, ap, refl, Decides-eqb}
 use Rattle.std.proofs.lemmas.Slice.Eq.{slice_eq-Decides}
 use Rattle.silt_store_set.proofs.Swaps.{holds_found, holds_none, holds_other}
 use Rattle.silt_store_set.proofs.store_core.Core.holds.Goals as goal
@@ -7,9 +6,8 @@ use Rattle.silt_store_set.proofs.store_core.Core.holds.Goals as goal
 pub returns-in-Some-clause-holds : goal.returns-in-Some-clause-holds
 returns-in-Some-clause-holds g c =
     let stands = c.self.invariant.stands (rw (← c.self.view_is) at c.requires.working) in
-    rw (← c.self.view_is, c.in-Some.is) (holds_found g.D.Disk _ _ c.self.inside.count _ stands c.in-Some.value.now c.eq.result c.get.new.out
-    (c.in-Ok-true.ensures.found stands (ap Ok c.in-Ok-true.field-0-test))
-    (slice_eq-Decides Decides-eqb c.get.new.out c.in-Some.value.now c.eq.result c.eq.ensures))
+    rw (← c.self.view_is, c.in-Some.is) (holds_found g.D.Disk _ _ c.self.inside.count _ stands c.in-Some.value.now c.eq.result c.get.new.out (c.in-Ok-true.ensures.found stands (ap Ok
+    c.in-Ok-true.field-0-test)) (slice_eq-Decides Decides-eqb c.get.new.out c.in-Some.value.now c.eq.result c.eq.ensures))
 
 pub returns-in-None-clause-holds : goal.returns-in-None-clause-holds
 returns-in-None-clause-holds g c =

@@ -1,5 +1,4 @@
-use Rattle.silt_store_set.proofs.Common.{true, false, refl, ap, sym, ◌∙◌, awaits_region}
-use Rattle.std.proofs.lemmas.Bool.{le-leb, lt-leb}
+use Rattle.silt_store_set.proofs.Common.{true, false, refl, ap, sym, ◌∙◌, awaits_region, le-leb, lt-leb}
 use Rattle.silt_store_set.proofs.MayMerge.{begins_if}
 use Rattle.silt_store_set.proofs.store_core.Core.may_merge.Goals as goal
 
@@ -12,6 +11,5 @@ returns-then-hash_stores-least g c =
 pub returns : goal.returns
 returns g c =
     let wants = rw (← c.self.view_is) at (sym c.wants_merge.ensures ∙ c.if-not-wants_merge.false) in
-    rw (← c.self.view_is) (begins_if g.D.Disk _ _ c.self.inside.count _ c.self.inside.basis c.args.least _ _ false c.awaits_region.result
-    c.self.invariant.stands wants c.is_merging.ensures c.if-is_merging.false c.hash_stores.ensures (lt-leb _ _ c.if-hash_stores-least.false)
-    (c.awaits_region.ensures ∙ ap awaits_region c.convert_turn.ensures))
+    rw (← c.self.view_is) (begins_if g.D.Disk _ _ c.self.inside.count _ c.self.inside.basis c.args.least _ _ false c.awaits_region.result c.self.invariant.stands wants c.is_merging.ensures
+    c.if-is_merging.false c.hash_stores.ensures (lt-leb _ _ c.if-hash_stores-least.false) (c.awaits_region.ensures ∙ ap awaits_region c.convert_turn.ensures))

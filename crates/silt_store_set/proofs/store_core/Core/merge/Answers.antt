@@ -1,7 +1,7 @@
 use Rattle.silt_store_set.proofs.Common.{arith, damaged_in}
-use Rattle.silt_engine.specs.declared.merge.MergeError.TheVariants as error
 use Rattle.silt_store_set.proofs.Calls.{core_broke, core_went, refused_failed}
 use Rattle.silt_store_set.proofs.Merges.{none_found, not_stepped, stepped}
+use Rattle.silt_engine.specs.declared.merge.MergeError.TheVariants as error
 use Rattle.silt_store_set.proofs.store_core.Core.merge.Goals as goal
 
 pub returns-then-self : goal.returns-then-self
@@ -20,15 +20,13 @@ returns-in-Err-Write g c =
 
 pub returns-in-Err-Read : goal.returns-in-Err-Read
 returns-in-Err-Read g c =
-    rw (← c.self.view_is, c.if-self.false) (not_stepped g.D.Disk _ _ _ (c.self.invariant.stands c.if-self.false) _ _ (error.Read c.in-Err-Read.fault)
-    (rw c.in-Err-Read.field-0-is at c.in-Err-Read.ensures.works) (rw c.in-Err-Read.field-0-is at c.in-Err-Read.ensures.err)
-    (λ place found. rw c.in-Err-Read.field-0-is at (c.in-Err-Read.ensures.stuck place found)))
+    rw (← c.self.view_is, c.if-self.false) (not_stepped g.D.Disk _ _ _ (c.self.invariant.stands c.if-self.false) _ _ (error.Read c.in-Err-Read.fault) (rw c.in-Err-Read.field-0-is at
+    c.in-Err-Read.ensures.works) (rw c.in-Err-Read.field-0-is at c.in-Err-Read.ensures.err) (λ place found. rw c.in-Err-Read.field-0-is at (c.in-Err-Read.ensures.stuck place found)))
 
 pub returns-in-Err-Spent : goal.returns-in-Err-Spent
 returns-in-Err-Spent g c =
-    rw (← c.self.view_is, c.if-self.false) (not_stepped g.D.Disk _ _ _ (c.self.invariant.stands c.if-self.false) _ _ error.Spent
-    (rw c.in-Err-Spent.field-0-is at c.in-Err-Spent.ensures.works) (rw c.in-Err-Spent.field-0-is at c.in-Err-Spent.ensures.err)
-    (λ place found. rw c.in-Err-Spent.field-0-is at (c.in-Err-Spent.ensures.stuck place found)))
+    rw (← c.self.view_is, c.if-self.false) (not_stepped g.D.Disk _ _ _ (c.self.invariant.stands c.if-self.false) _ _ error.Spent (rw c.in-Err-Spent.field-0-is at c.in-Err-Spent.ensures.works) (rw
+    c.in-Err-Spent.field-0-is at c.in-Err-Spent.ensures.err) (λ place found. rw c.in-Err-Spent.field-0-is at (c.in-Err-Spent.ensures.stuck place found)))
 
 pub returns-in-Err-NoMemory : goal.returns-in-Err-NoMemory
 returns-in-Err-NoMemory g c =

@@ -1,5 +1,4 @@
-use Rattle.silt_store_set.proofs.Common.{◌≡◌, ◌+◌, ◌++◌, ◌∷◌, [], List, take, sym, ◌∙◌, subst, take_more, take_all, Event, Runs}
-use Rattle.std.proofs.Common.{rules}
+use Rattle.silt_store_set.proofs.Common.{◌≡◌, ◌+◌, ◌++◌, ◌∷◌, [], List, take, sym, ◌∙◌, subst, take_more, take_all, Event, Runs, rules}
 use Rattle.silt_store_set.proofs.Calls.{endures_seen}
 use Rattle.silt_store_set.proofs.Keeps.{keeps_runs}
 use Rattle.silt_store_set.proofs.RunCosts.{run_made}
@@ -35,9 +34,8 @@ returns-clause-kept g c = λ working.
     let safe = (endures_seen g.D.Disk c.self.inside.disk c.self.inside.engine c.self.inside.count c.self.inside.failed c.self.inside.basis
     c.args.self.now c.self.view_is c.self.invariant).safe working in
     record {
-      each = λ h image left.
-          keeps_runs g.D.Disk c.args.self.now c.loop-event.self c.args.events.now c.loop-event.replies.items working safe runs
-          (sym c.loop-event.invariant.same_disk.honest ∙ h) image left;
+      each = λ h image left. keeps_runs g.D.Disk c.args.self.now c.loop-event.self c.args.events.now c.loop-event.replies.items working safe runs (sym c.loop-event.invariant.same_disk.honest ∙ h)
+          image left;
     }
 
 pub returns-clause-made : goal.returns-clause-made

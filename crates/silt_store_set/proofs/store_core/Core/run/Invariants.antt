@@ -1,6 +1,4 @@
-use Rattle.silt_store_set.proofs.Common.{◌≡◌, ◌≤◌, length, take, SameDisk, Runs}
-use Rattle.std.proofs.Common.{vec_len}
-use Rattle.std.specs.Prelude.{vec_capacity}
+use Rattle.silt_store_set.proofs.Common.{◌≡◌, ◌≤◌, length, take, SameDisk, Runs, vec_len, vec_capacity}
 use Rattle.silt_store_set.proofs.store_core.Core.run.Given as goal
 
 -- the events so far were done, and each has its reply

@@ -1,7 +1,7 @@
 use Rattle.silt_store_set.proofs.Common.{arith}
-use Rattle.silt_engine.specs.declared.row_write.WriteError.TheVariants as error
 use Rattle.silt_store_set.proofs.Calls.{core_broke, core_went}
 use Rattle.silt_store_set.proofs.Rows.{least_logs, may_count, may_working, row_taken, row_refused}
+use Rattle.silt_engine.specs.declared.row_write.WriteError.TheVariants as error
 use Rattle.silt_store_set.proofs.store_core.Core.write_row.Goals as goal
 
 pub returns-in-Ok : goal.returns-in-Ok
@@ -48,14 +48,12 @@ returns-in-Err-NoMemory g c =
 pub invariant_of-self-in-Err-Write : goal.invariant_of-self-in-Err-Write
 invariant_of-self-in-Err-Write g c =
     let working = rw (← c.self.view_is) at (may_working c.args.kind c.args.self.now c.requires.may) in
-    rw c.of-basis.ensures (core_broke g.D.Disk _ _ _ _ _ _ _ _ _ _ _ c.self.invariant working _ _ c.in-Err-Write.ensures.works
-    (rw c.in-Err-Write.field-0-is at c.in-Err-Write.ensures.err))
+    rw c.of-basis.ensures (core_broke g.D.Disk _ _ _ _ _ _ _ _ _ _ _ c.self.invariant working _ _ c.in-Err-Write.ensures.works (rw c.in-Err-Write.field-0-is at c.in-Err-Write.ensures.err))
 
 pub invariant_of-self : goal.invariant_of-self
 invariant_of-self g c =
     let working = rw (← c.self.view_is) at (may_working c.args.kind c.args.self.now c.requires.may) in
-    core_went g.D.Disk _ _ _ _ _ _ _ _ _ _ _ c.self.invariant working _ _ c.in-Ok.ensures.works (omega arith)
-    (rw (← c.self.view_is) at (may_count c.args.kind c.args.self.now c.requires.may))
+    core_went g.D.Disk _ _ _ _ _ _ _ _ _ _ _ c.self.invariant working _ _ c.in-Ok.ensures.works (omega arith) (rw (← c.self.view_is) at (may_count c.args.kind c.args.self.now c.requires.may))
 
 pub invariant_of-self-in-Err-Read : goal.invariant_of-self-in-Err-Read
 invariant_of-self-in-Err-Read g c = let err = rw c.in-Err-Read.field-0-is at c.in-Err-Read.ensures.err in rw (err.0.1, err.0.0) c.self.invariant
