@@ -1,9 +1,9 @@
 -- What the calls of a store do, from what the calls of its stores in memory do.
-use Rattle.silt_store_set.proofs.Common.{◌≡◌, ◌≤◌, ◌<◌, ℕ, ◌+◌, ◌^◌, Bool, true, false, IsTrue, List, [], ◌++◌, length, refl, ap, sym, ◌∙◌, subst, arith, LeavesOnly, MakesAtMost, device_size}
-use Rattle.silt_store_set.proofs.Common.{Ghosts, Command, Map, map_after, image_map, StandsFor, Stands, full_image, waiting_commands, EngineState, meaning, Event, Flush, Refusal, Failed, Reply}
-use Rattle.silt_store_set.proofs.Common.{Refused, Step, Counts, accepted_command, is_failed, BasisState, basis_kept, basis_of, IsCore, CoreState, map_of, Cause, Durable, Does, MadeFor}
-use Rattle.silt_store_set.proofs.Common.{convert_work, is_convert, is_merge, merge_work, most_syncs, most_writes, Err, Ok, length-append, most_none, BreaksOff, HoldsPrefix, WorksBy, Device}
-use Rattle.silt_store_set.proofs.Common.{FailsBy, is_finished, is_refused}
+use Rattle.silt_store_set.proofs.Common.{◌≡◌, ◌≤◌, ◌<◌, ℕ, ◌+◌, ◌^◌, Bool, true, false, IsTrue, List, [], ◌++◌, length, refl, ap, sym, ◌∙◌, subst, arith, LeavesOnly, MakesAtMost}
+use Rattle.silt_store_set.proofs.Common.{device_size, Ghosts, Command, Map, map_after, image_map, StandsFor, Stands, full_image, waiting_commands, EngineState, meaning, Event, Flush}
+use Rattle.silt_store_set.proofs.Common.{Refusal, Failed, Reply, Refused, Step, Counts, accepted_command, is_failed, BasisState, basis_kept, basis_of, IsCore, CoreState, map_of, Cause}
+use Rattle.silt_store_set.proofs.Common.{Durable, Does, MadeFor, convert_work, is_convert, is_merge, merge_work, most_syncs, most_writes, Err, Ok, length-append, most_none, BreaksOff}
+use Rattle.silt_store_set.proofs.Common.{HoldsPrefix, WorksBy, Device, FailsBy, is_finished, is_refused}
 use Rattle.silt_engine.specs.Laws.{IsGoodWith}
 use Rattle.silt_store_set.proofs.Maps.{append_nil}
 
@@ -60,7 +60,7 @@ pub record Endures {D F : Type 0} (facts : Ghosts D F) (core : CoreState D) : Ty
 
 pub endures : {D F : Type 0} (facts : Ghosts D F) (disk : D) (stores : EngineState) (count : ℕ) (failed : Bool) (basis : BasisState) → IsCore (facts.content disk) stores count failed basis
     → Endures facts (seen_core facts disk stores count failed basis)
-endures facts disk stores count true basis holds = search (arith, holds.breaks)
+endures facts disk stores count true basis holds = search arith
 endures facts disk stores count false basis holds =
     let standing = stands_seen facts disk stores count (holds.stands refl) in
     record {

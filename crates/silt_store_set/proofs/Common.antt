@@ -49,8 +49,8 @@ pub use Rattle.silt_store_set.specs.CoreState.{has_decided, is_convert, is_finis
 pub use Rattle.silt_store_set.specs.CoreState.{some_wait, wants_merge, written_of}
 pub use Rattle.silt_store_set.specs.Living.{LifeEnds, LifeRun, LivesRun, StartsFrom}
 pub use Rattle.silt_store_set.specs.Opening.{OpeningCause}
-pub use Rattle.std.proofs.lemmas.Bool.{cases_Bool, cases_lt, eq-eqb, eqb-true, le-leb, le-ltb, lt-leb, lt-ltb, ne_eqb}
-pub use Rattle.std.proofs.lemmas.Bool.Decides.{Decides-eqb, nat_tests}
+pub use Rattle.std.proofs.lemmas.Bool.{cases_lt, le-leb, lt-leb}
+pub use Rattle.std.proofs.lemmas.Bool.Decides.{Decides-eqb}
 pub use Rattle.std.proofs.lemmas.List.{drop-map, length-map, length-replicate, take-append-drop, take-replicate, take_all, take_more}
 pub use Rattle.std.specs.FinMap.{get}
 pub use Rattle.std.specs.Option.{option_map, option_or}

@@ -1,8 +1,9 @@
 -- What a step of conversion does, from what the same step of the stores in memory does.
-use Rattle.silt_store_set.proofs.Common.{◌≡◌, ℕ, inl, inr, false, IsTrue, [], length, Option, Some, None, refl, ap, sym, ◌∙◌, subst, length-map, Makes, MakesAtMost, none_made, Ghosts, hash_rows}
-use Rattle.silt_store_set.proofs.Common.{step_syncs, step_writes, convert_turn, is_work, Stands, full_image, EngineState, hash_region_of, region_of, Idle, Waiting, Moved, Finished, Convert, Spent}
-use Rattle.silt_store_set.proofs.Common.{Progress, Refused, Refusal, basis_of, CoreState, ConvertGoesOn, Does, convert_due, convert_work, written_of, WorksBy, Err, Ok, Result, arith, AreConverted}
-use Rattle.silt_store_set.proofs.Common.{ConvertErrorCause, Converts, Finishes, HasConvertedRows, IsNextStep, MovesOn, oldest_rows, written_by, Device, NoMemory, ConvertsTo}
+use Rattle.silt_store_set.proofs.Common.{◌≡◌, ℕ, inl, inr, false, IsTrue, [], length, Option, Some, None, refl, ap, sym, ◌∙◌, subst, length-map, Makes, MakesAtMost, none_made, Ghosts}
+use Rattle.silt_store_set.proofs.Common.{hash_rows, step_syncs, step_writes, convert_turn, is_work, Stands, full_image, EngineState, hash_region_of, region_of, Idle, Waiting, Moved}
+use Rattle.silt_store_set.proofs.Common.{Finished, Convert, Spent, Progress, Refused, Refusal, basis_of, CoreState, ConvertGoesOn, Does, convert_due, convert_work, written_of, WorksBy, Err}
+use Rattle.silt_store_set.proofs.Common.{Ok, Result, arith, AreConverted, ConvertErrorCause, Converts, Finishes, HasConvertedRows, IsNextStep, MovesOn, oldest_rows, written_by, Device}
+use Rattle.silt_store_set.proofs.Common.{NoMemory, ConvertsTo}
 use Rattle.silt_conversion.specs.Conversion.{ConversionState}
 use Rattle.silt_engine.specs.declared.conversion.ConvertError.{ConvertError}
 use Rattle.silt_engine.specs.declared.conversion.ConvertError.TheVariants.{Read, Write}
@@ -67,8 +68,9 @@ module _ {D F : Type 0} (facts : Ghosts D F) (disk : D) (stores : EngineState) (
       let work : after.converting ≡ Some moves.conversion = ap (λ (s : EngineState). s.converting) moves.is in
       let on : ConvertGoesOn stores.manifest.shape.hashes stores.manifest.current (convert_work stores.converting) (convert_work after.converting) =
       rw work (goes_on stores stores.converting moves.conversion moves.step) in
-      advanced facts _ _ _ _ disk new stores after stands Moved works count count Convert (Progress Moved) refl refl refl refl (refl, converts.due ∙ sym due_same, (current, on), works.failures) (λ
-      m to e. e) (λ _ _. current) (λ other. absurd (cc)) (λ _. ap (λ (s : EngineState). s.merging) moves.is) (λ _. tt) (made_due Moved new converts.due works.made)
+      advanced facts _ _ _ _ disk new stores after stands Moved works count count Convert (Progress Moved) refl refl refl refl
+      (refl, converts.due ∙ sym due_same, (current, on), works.failures) (λ m to e. e) (λ _ _. current) (λ other. absurd (cc)) (λ _. ap (λ (s : EngineState).
+      s.merging) moves.is) (λ _. tt) (made_due Moved new converts.due works.made)
   stepped Finished new after works converts rows quiet =
       let ends : Finishes stores after = converts.done in
       advanced facts _ _ _ _ disk new stores after stands Finished works count count Convert (Progress Finished) refl refl refl refl (

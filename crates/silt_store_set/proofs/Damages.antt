@@ -1,6 +1,6 @@
 -- What the next step of merging reads, in the words of the manifest record.
-use Rattle.silt_store_set.proofs.Common.{◌≡◌, ℕ, ◌+◌, ◌-◌, ◌*◌, ◌<◌, ◌≤◌, nat_lt, if◌then◌else◌, Bool, List, drop, get_or, length, Option, IfSome, ap, subst, arith, cases_lt, length-map, Shape}
-use Rattle.silt_store_set.proofs.Common.{Place, regions_of, MergeState, oldest_stores, steps_of, place_read, IsMerging, EngineState, merge_work, place_due, ◌/◌, le-ltb, lt-ltb, drop-map, AreWhole}
+use Rattle.silt_store_set.proofs.Common.{◌≡◌, ℕ, ◌+◌, ◌-◌, ◌*◌, ◌<◌, nat_lt, if◌then◌else◌, Bool, List, drop, get_or, length, Option, IfSome, ap, subst, arith, length-map, Shape, Place}
+use Rattle.silt_store_set.proofs.Common.{regions_of, MergeState, oldest_stores, steps_of, place_read, IsMerging, EngineState, merge_work, place_due, ◌/◌, drop-map, AreWhole}
 use Rattle.std.proofs.lemmas.Nat.{div-mul-add, mul-add-lt}
 use Rattle.std.proofs.Math.Nat.{mul_comm}
 use Rattle.silt_event.specs.declared.place.Place.TheVariants.{HashDigest, SortedDigest}
@@ -14,10 +14,6 @@ abbrev place_of : Bool → List ℕ → ℕ → Place
 place_of gathers regions store = if gathers then HashDigest (get_or regions store 0) else SortedDigest
 
 module _ (s : EngineState) (whole : AreWhole s) where
-  -- the regions of the oldest hash stores are the last ones that the manifest record names
-  regions_taken : (count : ℕ) → regions_of (oldest_stores count s.hashes) ≡ drop (length s.manifest.current.hashed - count) s.manifest.current.hashed
-  regions_taken count = search (arith, length-map, drop-map)
-
   -- a merge gathers as long as it took fewer steps than there are slots, and the number of its store is that of the steps by the slots of a store
   module _ (merge : MergeState) (way : IsMerging s merge) where
     abbrev slots : ℕ
@@ -30,13 +26,9 @@ module _ (s : EngineState) (whole : AreWhole s) where
         ≡ place_of (nat_lt (steps_of merge) (merge.stores * slots)) (drop (length s.manifest.current.hashed - merge.stores) s.manifest.current.hashed) (steps_of merge / slots)
     place_gathers below =
         let inside : merge.slot < slots = subst (λ (n : ℕ). merge.slot < n) slots_same way.held.slot in
-        let steps : steps_of merge ≡ merge.store * slots + merge.slot = search (arith, slots_same) in
-        search (arith, slot_below, div-mul-add, lt-ltb, regions_taken)
-
-    place_decides : merge.stores ≤ merge.store → place_of (nat_lt merge.store merge.stores) (regions_of (oldest_stores merge.stores s.hashes)) merge.store
-        ≡ place_of (nat_lt (steps_of merge) (merge.stores * slots)) (drop (length s.manifest.current.hashed - merge.stores) s.manifest.current.hashed) (steps_of merge / slots)
-    place_decides past = search (arith, slots_same, le-ltb)
+        let steps : steps_of merge ≡ merge.store * slots + merge.slot = search arith in
+        search (arith, div-mul-add, length-map, drop-map)
 
   -- what a step reads in memory is what is due by the manifest record
   pub place_seen : (o : Option MergeState) → IfSome o (IsMerging s) → place_read s.hashes o ≡ place_due s.manifest.shape s.manifest.current (merge_work o)
-  place_seen o merging = search (arith, cases_lt, place_gathers, place_decides)
+  place_seen o merging = search (arith, place_gathers)

@@ -10,7 +10,7 @@ begins_none (c ∷ kept) rest all none is = absurd (let no : c ∷ kept ++ rest 
 module _ {D F : Type 0} (facts : Ghosts D F) where
   -- by an acknowledging reply no store fails
   works_on : (old flushed : CoreState D) (n : ℕ) → Does facts old flushed Flush (Acknowledged n) → flushed.failed ≡ false
-  works_on old flushed n does = search (arith, does.faulted)
+  works_on old flushed n does = search arith
 
   pub failed_law : FailedLaw facts
   failed_law old flushed failed n event reply acknowledges fails is h image begun =

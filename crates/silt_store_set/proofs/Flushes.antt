@@ -1,6 +1,6 @@
 -- What a flush does.
-use Rattle.silt_store_set.proofs.Common.{◌≡◌, ℕ, ◌*◌, [], refl, ap, subst, ◌∙◌, Ghosts, Stands, waiting_commands, EngineState, Flush, Acknowledged, Refused, basis_of, Makes, MakesAtMost, Does}
-use Rattle.silt_store_set.proofs.Common.{some_wait, BreaksOff, ChangesOnlyActive, WorksBy, row_waits, Err, Ok, Result, IsQuiet, Device}
+use Rattle.silt_store_set.proofs.Common.{◌≡◌, ℕ, ◌*◌, [], refl, ap, subst, ◌∙◌, Ghosts, Stands, waiting_commands, EngineState, Flush, Acknowledged, Refused, basis_of, Makes, MakesAtMost}
+use Rattle.silt_store_set.proofs.Common.{Does, some_wait, BreaksOff, ChangesOnlyActive, WorksBy, row_waits, Err, Ok, Result, IsQuiet, Device}
 use Rattle.silt_store_set.proofs.Waits.{all_settled, waits_same}
 use Rattle.silt_store_set.proofs.Calls.{seen, seen_failed, advanced, broke}
 

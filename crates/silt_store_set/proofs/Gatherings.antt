@@ -1,9 +1,9 @@
 -- If a merge is out of memory, the slot that it gathers next has the first row of a key, or the key that it decides next has a value.
-use Rattle.silt_store_set.proofs.Common.{◌≡◌, ℕ, zero, suc, ◌+◌, ◌-◌, ◌*◌, ◌<◌, ◌≤◌, true, IsTrue, List, [], ◌∷◌, ◌++◌, drop, length, map, take, get_or, Option, Some, None, IsSomeAnd, refl, sym}
-use Rattle.silt_store_set.proofs.Common.{subst, ap, ◌∙◌, arith, append_assoc, length-map, Content, Shape, StoredRow, hash_rows, all_rows, Body, regions_of, MergeState, oldest_stores, steps_of}
-use Rattle.silt_store_set.proofs.Common.{GathersRow, TakesKey, full_stores, merge_sources, HasGathered, Stands, IsMerging, EngineState, sources_full, taken_sound, filter, flat_map, slice_get}
-use Rattle.silt_store_set.proofs.Common.{suc-mul, option_or, length-append, take-append-drop, newest_row, has_known_kind, is_put_row, hash_part, rows_before, slot_row, newest_rows, rows_of_hashes}
-use Rattle.silt_store_set.proofs.Common.{source_at, full_is, sorted_shape, HasNewKey}
+use Rattle.silt_store_set.proofs.Common.{◌≡◌, ℕ, zero, suc, ◌+◌, ◌-◌, ◌*◌, ◌<◌, ◌≤◌, true, IsTrue, List, [], ◌∷◌, ◌++◌, drop, length, map, take, get_or, Option, Some, None, IsSomeAnd, refl}
+use Rattle.silt_store_set.proofs.Common.{sym, subst, ap, ◌∙◌, arith, append_assoc, length-map, Content, Shape, StoredRow, hash_rows, all_rows, Body, regions_of, MergeState, oldest_stores}
+use Rattle.silt_store_set.proofs.Common.{steps_of, GathersRow, TakesKey, full_stores, merge_sources, HasGathered, Stands, IsMerging, EngineState, sources_full, taken_sound, filter, flat_map}
+use Rattle.silt_store_set.proofs.Common.{slice_get, suc-mul, option_or, length-append, take-append-drop, newest_row, has_known_kind, is_put_row, hash_part, rows_before, slot_row}
+use Rattle.silt_store_set.proofs.Common.{newest_rows, rows_of_hashes, source_at, full_is, sorted_shape, HasNewKey}
 use Rattle.std.proofs.lemmas.List.Elements.{filter-append}
 use Rattle.std.proofs.lemmas.Option.{slice_get-get_or}
 use Rattle.std.proofs.Math.Seq.{get_or-append_seam, take-append_seam}
@@ -50,18 +50,9 @@ none_of_both None p none = (refl, none)
 none_of_both (Some x) p none = absurd (cc)
 
 module _ (key : List ℕ) where
-  -- no row of either part
-  none_apart : (older newer : List StoredRow) → newest_row (older ++ newer) key ≡ None → (newest_row older key ≡ None) × (newest_row newer key ≡ None)
-  none_apart older newer none = search (arith, none_of_both, newest_append)
-
   -- if neither part has a row of the key, both together have none
   none_together : (older newer : List StoredRow) → newest_row older key ≡ None → newest_row newer key ≡ None → newest_row (older ++ newer) key ≡ None
   none_together older newer old new = newest_append older newer key ∙ ap (λ o. option_or o (newest_row older key)) new ∙ old
-
-  -- as far as rows are of known kinds
-  none_known : (first second : List StoredRow) → newest_row (filter has_known_kind first) key ≡ None → newest_row (filter has_known_kind second) key ≡ None
-      → newest_row (filter has_known_kind (first ++ second)) key ≡ None
-  none_known first second one other = ap (λ l. newest_row l key) (filter-append has_known_kind first second) ∙ none_together (filter has_known_kind first) (filter has_known_kind second) one other
 
 -- ---- the slots of regions
 
@@ -74,10 +65,6 @@ module _ (s : Shape) (image : List ℕ) where
   parts_slots [] = refl
   parts_slots (region ∷ regions) = ap (λ l. hash_rows s region image ++ l) (parts_slots regions)
 
-  -- a region has one row a slot
-  region_long : (region : ℕ) → length (hash_rows s region image) ≡ 4 * s.buckets
-  region_long region = ap length (all_before s region image) ∙ before_count s region image (4 * s.buckets)
-
   -- the row of a slot comes behind the rows before it
   row_behind : (region slot : ℕ) → slot < 4 * s.buckets → hash_rows s region image ≡ rows_before s region image slot ++ slot_row s region image slot ∷ drop (slot + 1) (hash_rows s region image)
   row_behind region slot inside =
@@ -89,13 +76,13 @@ module _ (s : Shape) (image : List ℕ) where
   -- a key that no row of stores has, no slot of them has
   none_in : (key : List ℕ) (regions : List ℕ) → newest_row (rows_of_hashes s image regions) key ≡ None → newest_row (filter has_known_kind (slots_in regions)) key ≡ None
   none_in key [] none = none
-  none_in key (region ∷ regions) none = search (arith, none_in key regions, none_apart, none_known)
+  none_in key (region ∷ regions) none = search (arith, none_in key regions, none_of_both, newest_append, filter-append, none_together)
 
   -- a key that no gathered row has, no slot before has
   none_before : (key : List ℕ) (regions : List ℕ) (store slot : ℕ) → newest_row (gathered_rows s image regions store slot) key ≡ None
       → newest_row (filter has_known_kind (slots_in (take store regions) ++ rows_before s (get_or regions store 0) image slot)) key ≡ None
   unfolding gathered_rows
-  none_before key regions store slot none = search (arith, none_apart, none_known, none_in)
+  none_before key regions store slot none = search (arith, none_of_both, newest_append, filter-append, none_together, none_in)
 
   -- the slot that is gathered next
   next_slot : (regions : List ℕ) (store slot steps : ℕ) → store < length regions → slot < 4 * s.buckets → steps ≡ store * (4 * s.buckets) + slot
@@ -107,7 +94,7 @@ module _ (s : Shape) (image : List ℕ) where
       let before : List StoredRow = slots_in (take store regions) ++ rows_before s region image slot in
       let all = stands_behind (λ (r : ℕ). hash_rows s r image) regions store 0 (rows_before s region image slot) row
       (drop (slot + 1) (hash_rows s region image)) below (row_behind region slot inside) in
-      let long : length before ≡ steps = search (arith, length-append, lists_long, region_long, before_count) in
+      let long : length before ≡ steps = search (arith, length-append, lists_long, all_before, before_count) in
       record {
         row = row;
         next = cc (all.1, next_there before row all.0 steps long);

@@ -1,7 +1,7 @@
 -- Lives, from their openings, runs and crashes.
-use Rattle.silt_store_set.proofs.Common.{◌≡◌, ℕ, ◌+◌, false, IsTrue, List, [], ◌∷◌, ◌++◌, length, Vec, refl, ap, sym, ◌∙◌, subst, arith, Global, Content, Left, LeavesOnly, Restarts, Shape, Event}
-use Rattle.silt_store_set.proofs.Common.{LifeReply, NotOpened, Opened, Refusal, Reply, Map, map_after, LivesHistory, CoreState, map_of, Runs, Opens, IsSafe, Ghosts, StandsFor, SameDisk}
-use Rattle.silt_store_set.proofs.Common.{LeavesNoOther, OpeningCause, NoMemory, LifeHistory}
+use Rattle.silt_store_set.proofs.Common.{◌≡◌, ℕ, ◌+◌, false, IsTrue, List, [], ◌∷◌, ◌++◌, length, Vec, refl, ap, sym, ◌∙◌, subst, arith, Global, Content, Left, LeavesOnly, Restarts, Shape}
+use Rattle.silt_store_set.proofs.Common.{Event, LifeReply, NotOpened, Opened, Refusal, Reply, Map, map_after, LivesHistory, CoreState, map_of, Runs, Opens, IsSafe, Ghosts, StandsFor}
+use Rattle.silt_store_set.proofs.Common.{SameDisk, LeavesNoOther, OpeningCause, NoMemory, LifeHistory}
 use Rattle.silt_disk.proofs.Images.{shown_left, left_at_rest}
 use Rattle.silt_store_set.proofs.Keeps.{keeps_runs, nines}
 use Rattle.silt_store_set.proofs.Openings.{opening_refused}
@@ -31,7 +31,7 @@ module _ {D F : Type 0} (facts : Ghosts D F) (old : Content) (value_len : ℕ) (
   life_unopened disk refusal new leaves cause restarts = (
     m,
     (opening_refused facts old disk refusal h shown_safe.good cause, refl),
-    restarted value_len m (facts.content disk) new restarts (search (arith, stands_safe, shown_safe, leaves.each)),
+    restarted value_len m (facts.content disk) new restarts (search arith),
   )
 
   -- the store has values of this length
@@ -73,7 +73,7 @@ module _ {D F : Type 0} (facts : Ghosts D F) (old : Content) (value_len : ℕ) (
           nines facts core after events replies.items false opens.working runs,
           refl,
         ),
-        record { each = search (arith, left_at_rest, stands_safe, opened_len) },
+        record { each = search (arith, left_at_rest, opened_len) },
       )
 
 -- one more life makes a longer history

@@ -1,7 +1,7 @@
 -- What a crash keeps of a run.
-use Rattle.silt_store_set.proofs.Common.{◌≡◌, ◌≤◌, ℕ, ◌+◌, ◌||◌, Bool, true, false, IsTrue, List, [], ◌∷◌, ◌++◌, length, refl, ap, sym, ◌∙◌, subst, arith, append_assoc, Left, LeavesOnly, Ghosts}
-use Rattle.silt_store_set.proofs.Common.{StandsFor, Event, Failed, Reply, Acknowledged, Refused, Command, Counts, accepted_command, accepted_commands, is_failed, CoreState, Cause, Does, Runs}
-use Rattle.silt_store_set.proofs.Common.{Durable, length-append, acknowledged_by, acknowledged_after, is_fault, FailsAfterFault, StandsKept}
+use Rattle.silt_store_set.proofs.Common.{◌≡◌, ◌≤◌, ℕ, ◌+◌, ◌||◌, Bool, true, false, IsTrue, List, [], ◌∷◌, ◌++◌, length, refl, ap, sym, ◌∙◌, subst, arith, append_assoc, Left, LeavesOnly}
+use Rattle.silt_store_set.proofs.Common.{Ghosts, StandsFor, Event, Failed, Reply, Acknowledged, Refused, Command, Counts, accepted_command, accepted_commands, is_failed, CoreState, Cause}
+use Rattle.silt_store_set.proofs.Common.{Does, Runs, Durable, length-append, acknowledged_by, acknowledged_after, is_fault, FailsAfterFault, StandsKept}
 use Rattle.silt_store_set.proofs.Maps.{map_after-append, append_nil}
 use Rattle.silt_store_set.proofs.Calls.{none_refused}
 

@@ -1,6 +1,6 @@
 -- What lives do, one after the other.
-use Rattle.silt_store_set.proofs.Common.{arith, ◌≡◌, ◌≢◌, ℕ, inr, List, [], ◌∷◌, ◌++◌, Vec, refl, Global, Restarts, Ghosts, LeavesNoOther, SameDisk, Event, LifeReply, NotOpened, Opened, Refusal}
-use Rattle.silt_store_set.proofs.Common.{Reply, CoreState, Opens, Runs, OpeningCause, NotFormatted, BadGeometry, Damaged, Crowded, Device, NoMemory, LifeEnds, LifeRun, LivesRun}
+use Rattle.silt_store_set.proofs.Common.{arith, ◌≡◌, ◌≢◌, ℕ, inr, List, [], ◌∷◌, ◌++◌, Vec, refl, Global, Restarts, Ghosts, LeavesNoOther, SameDisk, Event, LifeReply, NotOpened, Opened}
+use Rattle.silt_store_set.proofs.Common.{Refusal, Reply, CoreState, Opens, Runs, OpeningCause, NotFormatted, BadGeometry, Damaged, Crowded, Device, NoMemory, LifeEnds, LifeRun, LivesRun}
 
 module _ {D F : Type 0} (facts : Ghosts D F) (value_len : ℕ) where
   -- ---- one life

@@ -1,11 +1,11 @@
 -- What a step of merging does, from what the same step of the stores in memory does.
-use Rattle.silt_store_set.proofs.Common.{◌≡◌, ℕ, ◌+◌, ◌-◌, ◌*◌, ◌==◌, inl, inr, Bool, false, true, IsTrue, IsSomeAnd, length, Option, Some, None, IfSome, refl, ap, sym, ◌∙◌, arith, eqb-true}
-use Rattle.silt_store_set.proofs.Common.{length-map, MakesAtMost, none_made, Shape, Ghosts, Merge, Idle, Waiting, Moved, Finished, Place, Spent, Progress, Refused, Refusal, key_count, MergeState}
-use Rattle.silt_store_set.proofs.Common.{oldest_stores, steps_of, GathersRow, TakesKey, IsLastGeneration, is_work, step_syncs, step_writes, damaged_in, full_stores, merge_sources, place_read}
-use Rattle.silt_store_set.proofs.Common.{HasGathered, Stands, IsMerging, EngineState, hash_region_of, meaning, basis_of, CoreState, Does, MadeFor, entries_written, merge_work, place_due, ◌⊎◌, Err}
-use Rattle.silt_store_set.proofs.Common.{Ok, Result, option_map, cases_Bool, eq-eqb, most_more, Damaged, Device, NoMemory, merged_rows, is_done, TakesMemory, EndsMerged, HasMergedEntries}
-use Rattle.silt_store_set.proofs.Common.{IsDoneBySteps, IsNextMerge, MayLackMemory, MergeErrorCause, Merges, MergesOn, WorksOfMerge, merge_progress, merge_turn, merged_body, DecidesValue}
-use Rattle.silt_store_set.proofs.Common.{GathersNewKey, GathersNext, IsMergeDue, MergeGoesOn, MergeLacksMemory, MayFind, found_damaged, has_decided, merge_due}
+use Rattle.silt_store_set.proofs.Common.{◌≡◌, ℕ, ◌+◌, ◌-◌, ◌*◌, ◌==◌, inl, inr, Bool, false, true, IsTrue, IsSomeAnd, length, Option, Some, None, IfSome, refl, ap, sym, ◌∙◌, arith}
+use Rattle.silt_store_set.proofs.Common.{length-map, MakesAtMost, none_made, Shape, Ghosts, Merge, Idle, Waiting, Moved, Finished, Place, Spent, Progress, Refused, Refusal, key_count}
+use Rattle.silt_store_set.proofs.Common.{MergeState, oldest_stores, steps_of, GathersRow, TakesKey, IsLastGeneration, is_work, step_syncs, step_writes, damaged_in, full_stores}
+use Rattle.silt_store_set.proofs.Common.{merge_sources, place_read, HasGathered, Stands, IsMerging, EngineState, hash_region_of, meaning, basis_of, CoreState, Does, MadeFor, entries_written}
+use Rattle.silt_store_set.proofs.Common.{merge_work, place_due, ◌⊎◌, Err, Ok, Result, option_map, most_more, Damaged, Device, NoMemory, merged_rows, is_done, TakesMemory, EndsMerged}
+use Rattle.silt_store_set.proofs.Common.{HasMergedEntries, IsDoneBySteps, IsNextMerge, MayLackMemory, MergeErrorCause, Merges, MergesOn, WorksOfMerge, merge_progress, merge_turn}
+use Rattle.silt_store_set.proofs.Common.{merged_body, DecidesValue, GathersNewKey, GathersNext, IsMergeDue, MergeGoesOn, MergeLacksMemory, MayFind, found_damaged, has_decided, merge_due}
 use Rattle.silt_event.specs.declared.progress.Progress.{Progress as ProgressOf}
 use Rattle.silt_engine.specs.declared.merge.MergeError.{MergeError}
 use Rattle.silt_engine.specs.declared.merge.MergeError.TheVariants.{Read, Write}
@@ -17,7 +17,7 @@ use Rattle.silt_engine.specs.declared.merge.MergeError.TheVariants as error
 
 -- a test is equality if it is true exactly when the two numbers are the same
 tells_same : (a b : ℕ) (c : Bool) → (c ≡ true → a ≡ b) → (a ≡ b → c ≡ true) → (a == b) ≡ c
-tells_same a b c gives takes = search (arith, eq-eqb, cases_Bool, eqb-true)
+tells_same a b c gives takes = search arith
 
 -- if a merge is in progress there is work
 some_work : (hashes : ℕ) (done : Bool) → is_work (merge_progress hashes (Some done)) ≡ true

@@ -1,6 +1,6 @@
 -- What opening returns, from what recovery finds.
-use Rattle.silt_store_set.proofs.Common.{◌≡◌, IsTrue, [], Option, Some, None, refl, ap, sym, ◌∙◌, arith, Content, Ghosts, map_after, LogState, waiting_rows, waiting_commands, EngineState, meaning}
-use Rattle.silt_store_set.proofs.Common.{Opens, convert_work, merge_work, OpeningCause, Refusal, IsGood, TakesUp, IsOpeningRefusal}
+use Rattle.silt_store_set.proofs.Common.{◌≡◌, IsTrue, [], Option, Some, None, refl, ap, sym, ◌∙◌, arith, Content, Ghosts, map_after, LogState, waiting_rows, waiting_commands, EngineState}
+use Rattle.silt_store_set.proofs.Common.{meaning, Opens, convert_work, merge_work, OpeningCause, Refusal, IsGood, TakesUp, IsOpeningRefusal}
 use Rattle.silt_log.specs.Rows.{rows_from}
 use Rattle.silt_store_set.proofs.Calls.{seen, stands_seen}
 
@@ -11,7 +11,7 @@ never found x none some = absurd (let no : None ≡ Some x = sym none ∙ some i
 
 -- opening a good image is refused only by its device or if out of memory
 pub opening_refused : {D F : Type 0} (facts : Ghosts D F) (old : Content) (disk : D) (r : Refusal F) → IsTrue old.honest → IsGood old.shown → OpeningCause facts old disk r → IsOpeningRefusal r
-opening_refused facts old disk r h good cause = search (arith, never)
+opening_refused facts old disk r h good cause = search arith
 
 -- ---- what is opened
 

@@ -1,9 +1,9 @@
 -- What a put or a delete does, from what taking its row does.
-use Rattle.silt_store_set.proofs.Common.{◌≡◌, ◌≢◌, ◌<◌, ◌≤◌, ℕ, ◌*◌, Bool, true, if◌then◌else◌, Option, ◌+◌, ◌^◌, inl, inr, false, IsTrue, List, [], ◌∷◌, length, refl, ap, sym, ◌∙◌, subst, arith}
-use Rattle.silt_store_set.proofs.Common.{length-map, Makes, MakesAtMost, Ghosts, Key, Command, command_of, StoredRow, all_rows, Body, SameDisk, Stands, full_image, waiting_commands, EngineState}
-use Rattle.silt_store_set.proofs.Common.{region_of, meaning, Put, Delete, Refusal, Spent, Accepted, Refused, is_failed, basis_of, progress_due, Idle, Shape, CoreState, Cause, convert_due}
-use Rattle.silt_store_set.proofs.Common.{convert_work, written_of, Does, MakesRow, most_syncs, most_writes, some_wait, ne_eqb, stored_row, CannotTake, WorksBy, Err, Ok, Result, Device, NoMemory}
-use Rattle.silt_store_set.proofs.Common.{NoRoom, InLimits, AreAllInUse, Freezes, HasFreeLog, IsStuck, MayWrite, NoRowCause, Takes, row_event}
+use Rattle.silt_store_set.proofs.Common.{◌≡◌, ◌≢◌, ◌<◌, ◌≤◌, ℕ, ◌*◌, Option, ◌+◌, ◌^◌, inl, inr, false, IsTrue, List, [], ◌∷◌, length, refl, ap, sym, ◌∙◌, subst, arith, length-map, Makes}
+use Rattle.silt_store_set.proofs.Common.{MakesAtMost, Ghosts, Key, Command, command_of, StoredRow, all_rows, Body, SameDisk, Stands, full_image, waiting_commands, EngineState, region_of}
+use Rattle.silt_store_set.proofs.Common.{meaning, Put, Delete, Refusal, Spent, Accepted, Refused, is_failed, basis_of, progress_due, Idle, Shape, CoreState, Cause, convert_due, convert_work}
+use Rattle.silt_store_set.proofs.Common.{written_of, Does, MakesRow, most_syncs, most_writes, some_wait, stored_row, CannotTake, WorksBy, Err, Ok, Result, Device, NoMemory, NoRoom, InLimits}
+use Rattle.silt_store_set.proofs.Common.{AreAllInUse, Freezes, HasFreeLog, IsStuck, MayWrite, NoRowCause, Takes, row_event}
 use Rattle.silt_frame.specs.declared.key.Kind.{Kind}
 use Rattle.silt_log.specs.Rows.{log_rows}
 use Rattle.silt_engine.specs.Calls.{HasNoFreeLog as AllInUse}
@@ -11,7 +11,6 @@ use Rattle.silt_engine.specs.NextLog.{IsLowestFree, next_body}
 use Rattle.silt_engine.specs.RowWrite.{CountsRow, NeedsNext, WriteCause, WritesKey}
 use Rattle.silt_engine.specs.declared.row_write.WriteError.{WriteError}
 use Rattle.silt_engine.specs.declared.row_write.WriteError.TheVariants.{Read, Write}
-use Rattle.silt_event.specs.declared.progress.Progress.{Progress as ProgressOf}
 use Rattle.silt_store_set.proofs.Waits.{waits_same}
 use Rattle.silt_store_set.proofs.Calls.{seen, seen_failed, advanced, broke, refused}
 use Rattle.silt_frame.specs.declared.key.Kind.TheVariants as kind
@@ -32,14 +31,9 @@ may_count kind.Delete core may = omega (arith, may.count)
 freezes : (logs : ℕ) (old new : Body) (region : ℕ) → IsLowestFree logs old region → new ≡ next_body old region → Freezes logs old new
 freezes logs old new region lowest is = search arith
 
--- a step of conversion is not idle if neither case of it is
-neither_idle : (b : Bool) (first second : ProgressOf) → first ≢ Idle → second ≢ Idle → (if b then first else second) ≢ Idle
-neither_idle true first second works waits = works
-neither_idle false first second works waits = waits
-
 -- with a frozen log a step of conversion is due, or waits for a hash region
 not_idle : (frozen hashes regions slots : ℕ) (written : Option ℕ) → 1 ≤ frozen → progress_due frozen hashes regions slots written ≢ Idle
-not_idle frozen hashes regions slots written some = search (arith, neither_idle, ne_eqb)
+not_idle frozen hashes regions slots written some = search arith
 
 -- there are at least two logs
 pub least_logs : (shape : Shape) → InLimits shape → 2 ≤ shape.logs

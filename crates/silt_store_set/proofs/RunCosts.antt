@@ -1,20 +1,10 @@
 -- How many writes and syncs runs make, from what each call makes.
-use Rattle.silt_store_set.proofs.Common.{sym, ◌≡◌, ◌≤◌, ℕ, zero, suc, ◌+◌, ◌*◌, Bool, true, false, IsTrue, List, [], ◌∷◌, ◌++◌, length, Option, Some, None, refl, ap, ◌∙◌, subst, arith, Ghosts}
-use Rattle.silt_store_set.proofs.Common.{none_made, Command, Event, Put, Delete, Swap, Flush, Get, Convert, Merge, Moved, Finished, Reply, Accepted, Acknowledged, Found, Absent, Differs, Progress}
-use Rattle.silt_store_set.proofs.Common.{Refused, accepted_command, accepted_commands, ConvertGoesOn, CoreState, Does, MakesRow, Runs, entries_written, is_convert, is_merge, some_wait, eqb-true}
-use Rattle.silt_store_set.proofs.Common.{Body, progress_due, ◌&&◌, made_both, ConvertWork, HasMade, WritesRow, length-append}
+use Rattle.silt_store_set.proofs.Common.{sym, ◌≡◌, ◌≤◌, ℕ, zero, suc, ◌+◌, ◌*◌, Bool, true, false, IsTrue, List, [], ◌∷◌, ◌++◌, length, Option, Some, None, refl, ap, ◌∙◌, subst, arith}
+use Rattle.silt_store_set.proofs.Common.{Ghosts, none_made, Command, Event, Put, Delete, Swap, Flush, Get, Convert, Merge, Moved, Reply, Accepted, Acknowledged, Found, Absent, Differs}
+use Rattle.silt_store_set.proofs.Common.{Progress, Refused, accepted_command, accepted_commands, ConvertGoesOn, CoreState, Does, MakesRow, Runs, entries_written, is_convert, is_merge}
+use Rattle.silt_store_set.proofs.Common.{some_wait, Body, ◌&&◌, made_both, ConvertWork, HasMade, WritesRow, length-append}
 use Rattle.std.specs.List.{list_all}
 use Rattle.silt_store_set.specs.Costs.{RowsMade, RunMade, is_foreground, settles_by, settling, to_the_end, waits_after}
-
--- behind other commands a command waits
-waits_behind : (commands : List Command) (command : Command) → some_wait (commands ++ command ∷ []) ≡ 1
-waits_behind [] command = refl
-waits_behind (first ∷ commands) command = refl
-
--- some commands wait or none do
-waits_most : (commands : List Command) → some_wait commands ≤ 1
-waits_most [] = omega arith
-waits_most (command ∷ commands) = omega arith
 
 -- of two truths each is one
 both_true : (a b : Bool) → IsTrue (a && b) → IsTrue a × IsTrue b
@@ -42,10 +32,6 @@ one_slot hashes body (Some before) (Some after) on = on.1
 one_slot hashes body None (Some after) on = on.1
 one_slot hashes body before None on = absurd on
 
--- if the step that is due finishes, all slots are written
-all_slots : (frozen hashes regions slots written : ℕ) → Finished ≡ progress_due frozen hashes regions slots (Some written) → written ≡ slots
-all_slots frozen hashes regions slots written due = search (arith, eqb-true)
-
 module _ {D F : Type 0} (facts : Ghosts D F) where
   -- the same numbers in other words
   as_many : (old new : CoreState D) {n k m l : ℕ} → HasMade facts old new n m → n ≡ k → m ≡ l → HasMade facts old new k l
@@ -71,7 +57,7 @@ module _ {D F : Type 0} (facts : Ghosts D F) where
     waits : some_wait new.waiting ≡ 1
 
   row_made : (old new : CoreState D) (key : List ℕ) (command : Command) → IsTrue (facts.content old.disk).honest → WritesRow facts old new key command → MakesRow facts old new → RowMade old new
-  row_made old new key command h h5 made = search (arith, as_many, waits_behind, waits_most)
+  row_made old new key command h h5 made = search arith
 
   -- the reply to the command of this number
   abbrev acceptance : ℕ → Reply F
@@ -79,17 +65,13 @@ module _ {D F : Type 0} (facts : Ghosts D F) where
 
   -- a command that wrote a row
   command_made : (old new : CoreState D) (event : Event) (n : ℕ) → length (accepted_command event (acceptance n)) ≡ 1 → RowMade old new → Made old new event (acceptance n)
-  command_made old new event n one row = search (arith, as_many)
+  command_made old new event n one row = search arith
 
   -- a call that freezes no log
   still_made : (old new : CoreState D) (event : Event) (reply : Reply F) → new.body.generation ≡ old.body.generation
       → HasMade facts old new (2 * length (accepted_command event reply) + settles_by (some_wait old.waiting) reply) (2 * settles_by (some_wait old.waiting) reply)
       → some_wait new.waiting ≡ waits_after (some_wait old.waiting) reply → Made old new event reply
-  still_made old new event reply same made waits = search (arith, as_many)
-
-  -- a call that changes nothing
-  nothing_made : (old new : CoreState D) → new ≡ old → (new.body.generation ≡ old.body.generation) × HasMade facts old new 0 0 × (some_wait new.waiting ≡ some_wait old.waiting)
-  nothing_made old new same = rw same (refl, none_made, refl)
+  still_made old new event reply same made waits = search arith
 
   call_made : (old new : CoreState D) (event : Event) (reply : Reply F) → IsTrue (facts.content old.disk).honest → IsTrue (is_foreground event) → old.failed ≡ false → new.failed ≡ false
       → Does facts old new event reply → Made old new event reply
@@ -99,10 +81,10 @@ module _ {D F : Type 0} (facts : Ghosts D F) where
       command_made old new (Swap key expected (Some value)) n refl (row_made old new key.0 _ h does.cause.1.1 does.made)
   call_made old new (Swap key expected None) (Accepted n) h front was is does = command_made old new (Swap key expected None) n refl (row_made old new key.0 _ h does.cause.1.1 does.made)
   call_made old new Flush (Acknowledged n) h front was is does = search (arith, still_made, as_many, does.keeps_body, does.settles)
-  call_made old new (Get key) (Found value) h front was is does = search (arith, nothing_made, still_made)
-  call_made old new (Get key) Absent h front was is does = search (arith, nothing_made, still_made)
-  call_made old new (Swap key expected value) Differs h front was is does = search (arith, nothing_made, still_made)
-  call_made old new event (Refused refusal) h front was is does = search (arith, nothing_made, still_made, does.stays)
+  call_made old new (Get key) (Found value) h front was is does = search (arith, still_made)
+  call_made old new (Get key) Absent h front was is does = search (arith, still_made)
+  call_made old new (Swap key expected value) Differs h front was is does = search (arith, still_made)
+  call_made old new event (Refused refusal) h front was is does = search (arith, still_made, does.stays)
   call_made old new Convert reply h front was is does = absurd (let no : IsTrue false = front in cc)
   call_made old new Merge reply h front was is does = absurd (let no : IsTrue false = front in cc)
   call_made old new (Swap key expected value) reply h front was is does = absurd does.cause.1
@@ -113,7 +95,7 @@ module _ {D F : Type 0} (facts : Ghosts D F) where
   -- a failed store stays one
   stays_failed : (old new : CoreState D) (events : List Event) (replies : List (Reply F)) → Runs facts old events replies new → old.failed ≡ true → new.failed ≡ true
   stays_failed old new [] [] runs failed = ap (λ (c : CoreState D). c.failed) runs ∙ failed
-  stays_failed old new (event ∷ events) (reply ∷ replies) runs failed = search (arith, stays_failed runs.0 new events replies runs.2, runs.1.failed)
+  stays_failed old new (event ∷ events) (reply ∷ replies) runs failed = search (arith, stays_failed runs.0 new events replies runs.2)
   stays_failed old new events replies runs failed = absurd runs
 
   -- so a store that is not failed was not
@@ -150,22 +132,13 @@ module _ {D F : Type 0} (facts : Ghosts D F) where
       }
   rows_made old new events replies h front is runs = absurd runs
 
-  -- a run that freezes no log
-  unfrozen : (old new : CoreState D) (events : List Event) (replies : List (Reply F)) → new.body.generation ≡ old.body.generation → RowsMade facts old events replies new
-      → HasMade facts old new (2 * length (accepted_commands events replies) + settling (some_wait old.waiting) replies) (2 * settling (some_wait old.waiting) replies)
-  unfrozen old new events replies same rows = as_many old new rows.made (omega (arith, same, rows.turns, rows.fewer)) (omega (arith, same, rows.turns, rows.fewer))
-
   -- ---- background work
-
-  -- the step that finishes a conversion comes after one for each slot
-  finished_at : (old new : CoreState D) → Does facts old new Convert (Progress Finished) → slots_written old.converting ≡ 4 * old.shape.buckets
-  finished_at old new does = search (arith, all_slots)
 
   conversion_made : (moves : ℕ) (old new : CoreState D) (events : List Event) → IsTrue (list_all is_convert events) → Runs facts old events (to_the_end moves) new
       → (slots_written old.converting + moves ≡ 4 * old.shape.buckets) × HasMade facts old new (moves + 3) 4
-  conversion_made zero old new (event ∷ []) all runs = search (arith, convert_is, both_true, finished_at)
+  conversion_made zero old new (event ∷ []) all runs = search (arith, convert_is, both_true)
   conversion_made zero old new (event ∷ other ∷ events) all runs = absurd runs.2
-  conversion_made (suc moves) old new (event ∷ events) all runs = search (arith, conversion_made moves, both_true, convert_is, one_slot, made_both)
+  conversion_made (suc moves) old new (event ∷ events) all runs = search (arith, conversion_made moves, both_true, convert_is, one_slot)
   conversion_made zero old new [] all runs = absurd runs
   conversion_made (suc moves) old new [] all runs = absurd runs
 
@@ -186,4 +159,4 @@ module _ {D F : Type 0} (facts : Ghosts D F) where
 
   -- what a run makes
   pub run_made : (old new : CoreState D) (events : List Event) (replies : List (Reply F)) → Runs facts old events replies new → RunMade facts old events replies new
-  run_made old new events replies runs = search (arith, unfrozen, rows_made, conversion_made, merge_made)
+  run_made old new events replies runs = search (arith, rows_made, conversion_made, merge_made)

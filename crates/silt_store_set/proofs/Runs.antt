@@ -1,6 +1,5 @@
 -- Runs of events, from what each call does.
 use Rattle.silt_store_set.proofs.Common.{subst, sym, ◌≡◌, Bool, IsTrue, List, [], ◌∷◌, ◌++◌, refl, ap, Ghosts, Event, Reply, Step, Legal, CoreState, map_of, Does, Runs, arith}
-use Rattle.silt_store_set.proofs.Calls.{step_refused}
 
 module _ {D F : Type 0} (facts : Ghosts D F) where
   -- a run goes on by one call
@@ -13,7 +12,7 @@ module _ {D F : Type 0} (facts : Ghosts D F) where
   -- of a failed store, and of one that is not, the reply is that of a map
   pub does_step : (old new : CoreState D) (event : Event) (reply : Reply F) → IsTrue (facts.content old.disk).honest → Does facts old new event reply → Step (map_of old) event reply (map_of new)
   does_step old new event reply h does =
-      let go : (b : Bool) → old.failed ≡ b → Step (map_of old) event reply (map_of new) = search (arith, step_refused, does.step, does.failed) in
+      let go : (b : Bool) → old.failed ≡ b → Step (map_of old) event reply (map_of new) = search arith in
       go old.failed refl
 
   -- the replies of a run are those of a map

@@ -1,6 +1,7 @@
 -- A merge in progress has a step left.
 use Rattle.silt_store_set.proofs.Common.{◌≡◌, ◌≤◌, ℕ, ◌+◌, ◌*◌, Bool, false, IsTrue, Option, Some, None, IfSome, inl, inr, arith, cases_lt, Ghosts, key_count, MergeState, oldest_stores}
-use Rattle.silt_store_set.proofs.Common.{sources_full, taken_sound, HasGathered, Stands, EngineState, IsMerging, BasisState, IsCore, CoreState, merge_work, sources, IsHeldMerge, IsWithinSteps}
+use Rattle.silt_store_set.proofs.Common.{sources_full, taken_sound, HasGathered, Stands, EngineState, IsMerging, BasisState, IsCore, CoreState, merge_work, sources, IsHeldMerge}
+use Rattle.silt_store_set.proofs.Common.{IsWithinSteps}
 use Rattle.silt_store_set.proofs.Calls.{seen, seen_core}
 use Rattle.silt_store_set.proofs.Damages.{slot_below}
 
@@ -9,7 +10,7 @@ few_gathered : (merge : MergeState) → IsHeldMerge merge → merge.store * (4 *
 few_gathered merge held = elim (cases_lt merge.store merge.stores) [
   | inl below ↦ let few = slot_below merge.store merge.stores merge.slot (4 * merge.shape.buckets) below held.slot in omega (arith, few)
   | inr past ↦
-      search (arith, held.ended)
+      search arith
 ]
 
 module _ {D F : Type 0} (facts : Ghosts D F) (disk : D) (stores : EngineState) (count : ℕ) (stands : Stands (facts.content disk) stores) where

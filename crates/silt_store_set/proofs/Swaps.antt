@@ -1,6 +1,6 @@
 -- Whether a key has the value that a swap expects, and what a swap does if it has another one or none can be read.
-use Rattle.silt_store_set.proofs.Common.{◌≡◌, ◌≢◌, ℕ, Bool, true, false, IsTrue, inl, List, Option, Some, None, refl, ap, ◌∙◌, is_some, get, Ghosts, Key, Swap, Refusal, Differs, Refused, Stands}
-use Rattle.silt_store_set.proofs.Common.{current_map, full_image, EngineState, image_map, Does, none_made, ◌↔◌, not, option_map, Device, IsRefusedRead}
+use Rattle.silt_store_set.proofs.Common.{◌≡◌, ◌≢◌, ℕ, Bool, true, false, IsTrue, inl, List, Option, Some, None, refl, ap, ◌∙◌, is_some, get, Ghosts, Key, Swap, Refusal, Differs, Refused}
+use Rattle.silt_store_set.proofs.Common.{Stands, current_map, full_image, EngineState, image_map, Does, none_made, ◌↔◌, not, option_map, Device, IsRefusedRead}
 use Rattle.silt_store_set.proofs.Calls.{seen, answered, refused}
 use Rattle.silt_store_set.proofs.Gets.{looked_up}
 
