@@ -1,7 +1,7 @@
 -- The bytes of the rows in slots, as a hasher is fed them.
 use Rattle.silt_hash_store.proofs.Common.{◌≡◌, ℕ, zero, suc, ◌+◌, ◌*◌, ◌≤◌, ◌<◌, Result, Ok, Err, OnOk, List, [], ◌++◌, length, take, drop, slice_range, refl, sym, subst, ap, ◌∙◌, arith}
-use Rattle.silt_hash_store.proofs.Common.{append_assoc, append-nil, take_all, length-between, add-mul, Holds, Shape, hash_at, row_len, slots_len, StoredRow, row_bytes, rows_bytes, HashBytesLaw}
-use Rattle.silt_hash_store.proofs.Common.{IsFed, HoldsSlots, slot_row, HashState, body_before}
+use Rattle.silt_hash_store.proofs.Common.{append_assoc, append-nil, take_all, length-between, add-mul, Holds, Shape, hash_at, row_len, slots_len, StoredRow, row_bytes, rows_bytes}
+use Rattle.silt_hash_store.proofs.Common.{HashBytesLaw, IsFed, HoldsSlots, slot_row, HashState, body_before}
 use Rattle.std.proofs.Math.Seq.{take-add}
 use Rattle.sha1.specs.declared.Sha1.{Sha1}
 use Rattle.silt_frame.proofs.RowBytes.{row_bytes_of, rows_bytes_more}

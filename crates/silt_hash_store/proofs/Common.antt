@@ -1,13 +1,13 @@
 -- The names of the crates below and of specs/ that several proofs cite, passed on from one place. Declares nothing.
-pub use Rattle.std.proofs.Common.{Bool, Err, IfErr, IfOk, IsTrue, List, None, Ok, OnOk, Option, Result, Some, [], ap, append-nil, append_assoc, arith, cond, drop, eqb, false, filter, flat_map}
-pub use Rattle.std.proofs.Common.{get_or, get_or-set_other, get_or-set_same, inl, inr, length, length-append, map, not, refl, replicate, rules, slice_get, slice_range, slice_set, subst, suc, sym}
+pub use Rattle.std.proofs.Common.{Bool, Err, IfErr, IfOk, IsTrue, List, None, Ok, OnOk, Option, Result, Some, [], ap, append-nil, append_assoc, arith, drop, eqb, false, filter, flat_map}
+pub use Rattle.std.proofs.Common.{get_or, get_or-set_other, get_or-set_same, inl, inr, length, length-append, map, refl, replicate, rules, slice_get, slice_range, slice_set, subst, suc, sym}
 pub use Rattle.std.proofs.Common.{take, true, zero, ℕ, ◌*◌, ◌++◌, ◌+◌, ◌-◌, ◌<◌, ◌==◌, ◌||◌, ◌∙◌, ◌∷◌, ◌≡◌, ◌≢◌, ◌≤◌}
 pub use Rattle.sha1.specs.Sha1.{Holds, sha1}
 pub use Rattle.silt_cuckoo.specs.Keys.{first_bucket, second_bucket}
 pub use Rattle.silt_disk.specs.Disk.{Content, LiesOutside, Torn, Writes, size}
 pub use Rattle.silt_disk.specs.Layout.{Shape, commits_at, device_size, hash_at, log_len, row_len, slots_len}
 pub use Rattle.silt_frame.specs.Frame.{kind_byte, kind_of}
-pub use Rattle.silt_frame.specs.Rows.{StoredRow, has_known_kind, put_count, puts_of, row_bytes, row_of, rows_bytes}
+pub use Rattle.silt_frame.specs.Rows.{StoredRow, has_known_kind, row_bytes, row_of, rows_bytes}
 pub use Rattle.silt_frame.specs.declared.key.Kind.{Kind}
 pub use Rattle.silt_hash_store.specs.Laws.{HashBytesLaw, HashElsewhereLaw}
 pub use Rattle.silt_hash_store.specs.Lookup.{FindsIn, FindsRow, MatchesKey, MatchesTag}
@@ -23,7 +23,7 @@ pub use Rattle.silt_log.specs.declared.found.Found.{Found}
 pub use Rattle.silt_log.specs.declared.scan.ScanError.{ScanError}
 pub use Rattle.silt_log.specs.declared.scan.ScanError.TheVariants.{Damaged, Device, NoMemory}
 pub use Rattle.std.proofs.Math.Nat.{add-mul, mul-le-mul_right}
-pub use Rattle.std.proofs.lemmas.Bool.{and_from, and_parts, cases_Bool, cases_eq, cases_lt, cond-false, cond-true, eq-eqb, eqb-true, ne_eqb, or_cases, or_parts}
+pub use Rattle.std.proofs.lemmas.Bool.{and_from, cases_eq, cases_lt, cond-false, cond-true, eq-eqb, eqb-true, ne_eqb}
 pub use Rattle.std.proofs.lemmas.List.{get_or-map, get_or_past, length-map, map-set, take_all}
 pub use Rattle.std.proofs.lemmas.List.Edits.{get_or-between, length-between}
 pub use Rattle.std.proofs.lemmas.List.Elements.{All-from_get_or, filter-append}

@@ -2,18 +2,17 @@
 use Rattle.silt_hash_store.proofs.Common.{◌≡◌, ℕ, ◌+◌, ◌*◌, ◌≤◌, ◌<◌, IsTrue, List, length, sym, ap, ◌∙◌, inl, inr, arith, LiesOutside, Torn, size, Shape, device_size, commits_at, hash_at}
 use Rattle.silt_hash_store.proofs.Common.{log_len, row_len, slots_len, row_of, hash_rows, hash_slot_at, map_range_same, HashElsewhereLaw}
 use Rattle.silt_disk.proofs.Images.{torn_slice_after, torn_slice_before}
-use Rattle.silt_disk.proofs.Regions.{regions_apart}
 use Rattle.silt_hash_store.specs.Slots.{rows_before, slot_row}
 use Rattle.silt_hash_store.proofs.Reading.{slot_inside}
 use Rattle.silt_hash_store.proofs.Slotting.{all_before}
 
 -- the slots of a hash region lie within the device
 pub slots_inside : (s : Shape) (region : ℕ) → region < s.hashes → hash_at s region + 4 * s.buckets * row_len s ≤ device_size s
-slots_inside s region there = grind (arith, regions_apart)
+slots_inside s region there = grind arith
 
 -- and after every log
 pub behind_logs : (s : Shape) (log_region region slot : ℕ) → log_region < s.logs → LiesOutside (commits_at s log_region) (log_len s) (hash_slot_at s region slot) (row_len s)
-behind_logs s log_region region slot there = grind (arith, regions_apart)
+behind_logs s log_region region slot there = grind arith
 
 -- a change outside the slots leaves each row
 pub slot_outside : (s : Shape) (region slot at count : ℕ) (old new : List ℕ) → hash_at s region + 4 * s.buckets * row_len s ≤ length old

@@ -1,10 +1,10 @@
 -- The row of a key among the slots of its two buckets.
-use Rattle.silt_hash_store.proofs.Common.{◌≡◌, ℕ, ◌<◌, false, List, length, get_or, Option, Some, None, Result, Ok, Err, IfOk, ap, ◌∙◌, arith, cases_Bool, cases_lt, and_parts, cond-true}
-use Rattle.silt_hash_store.proofs.Common.{cond-false, eqb-true, or_cases, or_parts, All-from_get_or, list_any_none, bytes_eq-Decides, first_bucket, second_bucket, Kind, has_tag_of, is_row_of}
-use Rattle.silt_hash_store.proofs.Common.{rows_before, slot_row, StoredRow, Found, FindsIn, FindsRow, MatchesKey, MatchesTag, HashState, IsTagged}
+use Rattle.silt_hash_store.proofs.Common.{◌≡◌, ℕ, ◌<◌, false, List, length, get_or, Option, Some, None, Result, Ok, Err, IfOk, ap, ◌∙◌, arith, eqb-true, All-from_get_or, list_any_none}
+use Rattle.silt_hash_store.proofs.Common.{bytes_eq-Decides, first_bucket, second_bucket, Kind, has_tag_of, is_row_of, rows_before, slot_row, StoredRow, Found, FindsIn, FindsRow, MatchesKey}
+use Rattle.silt_hash_store.proofs.Common.{MatchesTag, HashState, IsTagged}
 use Rattle.silt_hash_store.specs.Findings.{holds_key}
 use Rattle.silt_hash_store.proofs.Marking.{lacks_tag}
-use Rattle.silt_hash_store.proofs.Slotting.{before_at, before_count, before_there, sound_parts, tag_known}
+use Rattle.silt_hash_store.proofs.Slotting.{before_at, before_count, before_there}
 
 -- a kind that was found, or not, in a slot with the tag
 pub tag_matches : (at : Option ℕ) (tag : ℕ) (row : StoredRow) (key : List ℕ) (kind : Option Kind) → at ≡ Some tag → MatchesKey row key kind → MatchesTag at tag row key kind
@@ -22,14 +22,14 @@ module _ (store : HashState) (image : List ℕ) (count : ℕ) (is : IsTagged sto
   -- a row that was found is one of the rows before
   pub row_found : (bucket tag : ℕ) (found : Found) → FindsIn store.shape store.region store.tags image bucket tag key (Some found)
       → FindsRow (rows_before store.shape store.region image count) key (Some found)
-  row_found bucket tag found (tagged, here, kind) = grind (arith, cases_lt, and_parts, before_there, bytes_eq-Decides)
+  row_found bucket tag found (tagged, here, kind) = grind (arith, before_there, bytes_eq-Decides)
 
   -- a slot of the rows before with the key has a tag that is looked for
   slot_lacks : (slot : ℕ) → slot < count
       → FindsIn store.shape store.region store.tags image (first_bucket store.shape.buckets key) (second_bucket store.shape.buckets key) key None
       → FindsIn store.shape store.region store.tags image (second_bucket store.shape.buckets key) (first_bucket store.shape.buckets key) key None
       → is_row_of key (row_in slot) ≡ false
-  slot_lacks slot below first_none second_none = search (arith, cases_Bool, and_parts, bytes_eq-Decides, tag_known, sound_parts, eqb-true, cond-true, or_cases, cond-false)
+  slot_lacks slot below first_none second_none = search (arith, eqb-true)
 
   -- if neither bucket has a row of the key, no row before has it
   pub none_found : FindsIn store.shape store.region store.tags image (first_bucket store.shape.buckets key) (second_bucket store.shape.buckets key) key None
@@ -43,7 +43,7 @@ module _ (store : HashState) (image : List ℕ) (count : ℕ) (is : IsTagged sto
 
   -- if neither bucket has a tag of the key, no row before has it
   pub untagged_none : false ≡ has_tag_of store.tags store.shape.buckets key → FindsRow (rows_before store.shape store.region image count) key None
-  untagged_none lacks = grind (arith, or_parts, none_found, lacks_tag)
+  untagged_none lacks = grind (arith, none_found, lacks_tag)
 
   -- the result of the second bucket, if the first has no row of the key
   pub second_decides : (found : Option Found) → FindsIn store.shape store.region store.tags image (first_bucket store.shape.buckets key) (second_bucket store.shape.buckets key) key None

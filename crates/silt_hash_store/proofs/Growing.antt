@@ -1,22 +1,19 @@
 -- A rebuild, slot by slot, and the findings in a hash region.
-use Rattle.silt_hash_store.proofs.Common.{◌≡◌, ℕ, zero, suc, ◌+◌, ◌*◌, ◌<◌, eqb, Bool, true, false, not, cond, IsTrue, List, [], ◌∷◌, ◌++◌, length, filter, flat_map, take, get_or, slice_get}
-use Rattle.silt_hash_store.proofs.Common.{slice_set, rules, replicate, Option, Some, None, inl, inr, refl, sym, subst, ap, ◌∙◌, arith, length-append, append-nil, get_or-set_other, get_or-set_same}
-use Rattle.silt_hash_store.proofs.Common.{enumerate_from, is_some, and_from, cases_eq, get_or_past, filter-append, list_any_at, get_or_from_slice_get, slice_get_within, bytes_eq-Decides, sha1}
-use Rattle.silt_hash_store.proofs.Common.{Content, Shape, kind_byte, kind_of, Kind, put_count, has_known_kind, StoredRow, puts_of, rows_bytes, has_tag_of, hash_part, hash_rows, is_row_of}
-use Rattle.silt_hash_store.proofs.Common.{is_sound_slot, slot_row, slot_tag, Found, FindsRow, AddsSound, IsFirstUnsound, IsGrown, IsRebuiltHash, TagsKey, TakesAdded, IsScanRefused, HashState}
-use Rattle.silt_hash_store.proofs.Common.{IsHashStore, IsHeldHash, IsTagged, ScanError, Damaged, Rebuilt}
+use Rattle.silt_hash_store.proofs.Common.{◌≡◌, ℕ, zero, suc, ◌+◌, ◌*◌, ◌<◌, true, false, IsTrue, List, [], ◌∷◌, ◌++◌, length, filter, flat_map, take, get_or, slice_get, slice_set, rules}
+use Rattle.silt_hash_store.proofs.Common.{replicate, Option, Some, None, inl, inr, refl, sym, subst, ap, ◌∙◌, arith, length-append, append-nil, get_or-set_other, get_or-set_same}
+use Rattle.silt_hash_store.proofs.Common.{enumerate_from, is_some, and_from, cases_eq, get_or_past, filter-append, list_any_at, get_or_from_slice_get, slice_get_within, bytes_eq-Decides}
+use Rattle.silt_hash_store.proofs.Common.{sha1, Content, Shape, kind_byte, kind_of, Kind, has_known_kind, StoredRow, rows_bytes, has_tag_of, hash_part, hash_rows, is_row_of, is_sound_slot}
+use Rattle.silt_hash_store.proofs.Common.{slot_row, slot_tag, Found, FindsRow, AddsSound, IsFirstUnsound, IsGrown, IsRebuiltHash, TagsKey, TakesAdded, IsScanRefused, HashState, IsHashStore}
+use Rattle.silt_hash_store.proofs.Common.{IsHeldHash, IsTagged, ScanError, Damaged, Rebuilt}
 use Rattle.std.proofs.lemmas.List.Sums.{sum_by-append}
 use Rattle.silt_frame.specs.declared.key.Kind.TheVariants.{Put, Delete}
-use Rattle.silt_event.specs.Findings.{finding_if}
 use Rattle.silt_hash_store.specs.Findings.{hash_findings, holds_key, is_sound_hash_slot, slot_findings}
 use Rattle.silt_log.specs.Parts.{Part}
 use Rattle.silt_hash_store.specs.Slots.{rows_before}
-use Rattle.silt_event.specs.declared.damage.Finding.{Finding}
 use Rattle.silt_event.specs.declared.place.Place.TheVariants.{Hash}
-use Rattle.silt_event.proofs.Findings.{nothing_both, nothing_first, nothing_second, nothing_where_passes, passes_where_nothing}
-use Rattle.silt_log.proofs.KindBytes.{kind_of_byte}
+use Rattle.silt_event.proofs.Findings.{nothing_both, nothing_second, nothing_where_passes}
 use Rattle.silt_hash_store.proofs.Finding.{untagged_none}
-use Rattle.silt_hash_store.proofs.Slotting.{all_before, before_count, before_more, before_taken, before_there, empty_not_known, sound_known, tag_empty, tag_known, unsound_twice}
+use Rattle.silt_hash_store.proofs.Slotting.{all_before, before_count, before_more, before_taken, before_there, empty_not_known, tag_empty, unsound_twice}
 use Rattle.silt_event.specs.declared.damage.Finding.TheVariants as finding
 
 -- ---- findings
@@ -41,29 +38,24 @@ sound_from s part k (first ∷ rows) none (suc i) row there = search (
   sound_from s part (k + 1) rows (nothing_second (slot_findings s part (k, first)) (flat_map (slot_findings s part) (enumerate_from (k + 1) rows)) none) i row there,
   nothing_second,
 )
-sound_from s part k rows none i row there = search (rules, arith, passes_where_nothing, nothing_first)
+sound_from s part k rows none i row there = search (rules, arith)
 
 -- the first of what comes behind nothing
 first_behind : {X : Type 0} (xs ys : List X) (x : X) → xs ≡ [] → slice_get ys 0 ≡ Some x → slice_get (xs ++ ys) 0 ≡ Some x
 first_behind xs ys x none e = ap (λ l. slice_get (l ++ ys) 0) none ∙ e
-
--- the finding of a slot that is not sound
-finding_here : (s : Shape) (part : Part) (k : ℕ) (row : StoredRow) (rest : List Finding) → is_sound_hash_slot s part.rows k row ≡ false
-    → slice_get (slot_findings s part (k, row) ++ rest) 0 ≡ Some (finding.Damaged (Hash part.region k))
-finding_here s part k row rest unsound = ap (λ (b : Bool). slice_get (finding_if (not b) (finding.Damaged (Hash part.region k)) ++ rest) 0) unsound
 
 -- the first slot that is not sound is the first finding
 pub first_from : (s : Shape) (part : Part) (k n : ℕ) (rows : List StoredRow) (row : StoredRow) → slice_get rows n ≡ Some row
     → ((i : ℕ) (earlier : StoredRow) → i < n → slice_get rows i ≡ Some earlier → is_sound_hash_slot s part.rows (k + i) earlier ≡ true)
     → is_sound_hash_slot s part.rows (k + n) row ≡ false → slice_get (flat_map (slot_findings s part) (enumerate_from k rows)) 0 ≡ Some (finding.Damaged (Hash part.region (k + n)))
 first_from s part k n [] row there sound unsound = absurd (cc)
-first_from s part k zero (first ∷ rows) row there sound unsound = search (arith, finding_here)
+first_from s part k zero (first ∷ rows) row there sound unsound = search arith
 first_from s part k (suc n) (first ∷ rows) row there sound unsound =
     let here : k + 0 ≡ k = omega arith in
     let further : k + 1 + n ≡ k + suc n = omega arith in
     let passes : is_sound_hash_slot s part.rows k first ≡ true = ap (λ m. is_sound_hash_slot s part.rows m first) (sym here) ∙ sound 0 first (omega arith) refl in
     first_behind (slot_findings s part (k, first)) (flat_map (slot_findings s part) (enumerate_from (k + 1) rows)) (finding.Damaged (Hash part.region (k + suc
-    n))) (search (arith, nothing_where_passes)) (first_from s part (k + 1) n rows row there (λ i earlier low at.
+    n))) (search arith) (first_from s part (k + 1) n rows row there (λ i earlier low at.
     let step : k + 1 + i ≡ k + suc i = omega arith in
     ap (λ m. is_sound_hash_slot s part.rows m earlier) step ∙ sound (suc i) earlier (omega arith) at)
     (ap (λ m. is_sound_hash_slot s part.rows m row) further ∙ unsound)
@@ -110,7 +102,7 @@ module _ (s : Shape) (region : ℕ) (image : List ℕ) where
 
 -- a store that matches the disk has the tags of all slots
 pub tagged_all : (content : Content) (store : HashState) → IsHeldHash store → IsTrue content.honest → IsHashStore content store → IsTagged store content.shown (4 * store.shape.buckets)
-tagged_all content store held honest is = search (arith, all_sound, get_or_past, is.sound, is.tagged)
+tagged_all content store held honest is = search (arith, all_sound, get_or_past)
 
 -- so what is found among the rows before the last slot is found among all rows
 pub found_in_all : (s : Shape) (region : ℕ) (image : List ℕ) (key : List ℕ) (found : Option Found)
@@ -139,7 +131,7 @@ module _ (store : HashState) (image : List ℕ) (slot : ℕ) (is : IsTagged stor
   -- a row that is new adds its kind and its tag
   pub adds_row : (kind : Kind) (key : List ℕ) (tag : ℕ) → kind_of shown.kind ≡ Some kind → key ≡ shown.key → TagsKey store.shape slot key (Some tag)
       → FindsRow (rows_before store.shape store.region image slot) key None → AddsSound store image slot (Some (kind, tag))
-  adds_row kind key tag is_kind same (inside, other) none = search (arith, head_known, sound_known, earlier, tag_known)
+  adds_row kind key tag is_kind same (inside, other) none = search (arith, earlier)
 
   -- nor is a row whose key an earlier slot has
   pub twice_unsound : (kind : Kind) (key : List ℕ) (found : Found) → kind_of shown.kind ≡ Some kind → key ≡ shown.key → FindsRow (rows_before store.shape store.region image slot) key (Some found)
@@ -169,14 +161,6 @@ known_more s region image slot = ap (filter has_known_kind) (before_more s regio
 none_kept : (row : StoredRow) → has_known_kind row ≡ false → filter has_known_kind (row ∷ []) ≡ []
 none_kept row unknown = rw unknown refl
 
-one_kept : (row : StoredRow) → has_known_kind row ≡ true → filter has_known_kind (row ∷ []) ≡ row ∷ []
-one_kept row known = rw known refl
-
--- the puts of one row
-row_charge : (kind : Kind) (row : StoredRow) → kind_byte kind ≡ row.kind → put_count (row ∷ []) ≡ puts_of kind
-row_charge Put row e = ap (λ n. 0 + cond (eqb n 1) 1 0) (sym e)
-row_charge Delete row e = ap (λ n. 0 + cond (eqb n 1) 1 0) (sym e)
-
 -- the store of one slot more
 pub slot_taken : (old new : Rebuilt) (image : List ℕ) (slot : ℕ) (added : Option (Kind × ℕ)) → slot < 4 * old.store.shape.buckets → length old.store.tags ≡ 4 * old.store.shape.buckets
     → IsGrown old image slot → AddsSound old.store image slot added → TakesAdded slot added old new → IsGrown new image (slot + 1)
@@ -185,16 +169,16 @@ slot_taken old new image slot (Some (kind, tag)) below long is adds takes =
     let row : StoredRow = slot_row old.store.shape old.store.region image slot in
     let known : has_known_kind row ≡ true = head_known row kind adds.adds.0 in
     let before : List StoredRow = filter has_known_kind (rows_before old.store.shape old.store.region image slot) in
-    let kept : filter has_known_kind (rows_before old.store.shape old.store.region image (slot + 1)) ≡ before ++ row ∷ [] = search (arith, known_more, one_kept) in
+    let kept : filter has_known_kind (rows_before old.store.shape old.store.region image (slot + 1)) ≡ before ++ row ∷ [] = search (arith, known_more) in
     let tags : List (Option ℕ) = slice_set old.store.tags slot (Some tag) in
     subst (λ (r : Rebuilt). IsGrown r image (slot + 1)) (sym takes) (record {
       tagged = record {
         most = omega (arith, below);
         sound = λ j low. elim (cases_eq j slot) [ inl here ↦ rw (← here) at adds.sound | inr other ↦ is.tagged.sound j (omega arith) ];
-        tagged = search (arith, cases_eq, get_or-set_same, get_or-set_other, is.tagged.tagged);
-        later = search (arith, get_or-set_other, is.tagged.later);
+        tagged = search (arith, cases_eq, get_or-set_same, get_or-set_other);
+        later = search (arith, get_or-set_other);
       };
-      charged = search (arith, row_charge, kind_of_byte, sum_by-append);
+      charged = search (arith, sum_by-append);
       counted = ap (λ n. n + 1) is.counted ∙ sym (length-append before (row ∷ [])) ∙ ap length (sym kept);
     })
 

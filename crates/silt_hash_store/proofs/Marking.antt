@@ -1,7 +1,7 @@
 -- Stored tags and their meaning.
-use Rattle.silt_hash_store.proofs.Common.{◌≡◌, ℕ, zero, suc, ◌+◌, ◌-◌, ◌*◌, ◌≤◌, ◌<◌, eqb, Bool, true, false, ◌||◌, List, ◌∷◌, length, get_or, map, replicate, slice_set, slice_range, Option, Some}
-use Rattle.silt_hash_store.proofs.Common.{None, refl, sym, ap, ◌∙◌, arith, cases_Bool, cond-true, cond-false, eq-eqb, eqb-true, ne_eqb, get_or-map, map-set, get_or-between, list_any_at}
-use Rattle.silt_hash_store.proofs.Common.{get_or-range_with_len, range_with_len, is_tag, slot_tag, tag_seen}
+use Rattle.silt_hash_store.proofs.Common.{◌≡◌, ℕ, zero, suc, ◌+◌, ◌-◌, ◌*◌, ◌≤◌, ◌<◌, eqb, Bool, true, false, ◌||◌, List, ◌∷◌, length, get_or, map, replicate, slice_set, slice_range, Option}
+use Rattle.silt_hash_store.proofs.Common.{Some, None, refl, sym, ap, ◌∙◌, arith, cond-false, eq-eqb, ne_eqb, get_or-map, map-set, get_or-between, list_any_at, get_or-range_with_len}
+use Rattle.silt_hash_store.proofs.Common.{range_with_len, is_tag, slot_tag, tag_seen}
 use Rattle.silt_hash_store.specs.Slots.{bucket_has_tag}
 
 -- slots without a tag
@@ -15,7 +15,7 @@ tag_stored tag below = cond-false _ _ _ (ne_eqb tag 65535 (λ same. absurd (omeg
 
 -- a number is this tag
 tag_same : (number tag : ℕ) → tag < 65535 → is_tag tag (tag_seen number) ≡ eqb number tag
-tag_same number tag below = grind (arith, cases_Bool, ne_eqb, eqb-true, cond-true, cond-false)
+tag_same number tag below = grind arith
 
 -- and so for the number of a slot
 tag_at : (numbers : List ℕ) (slot tag : ℕ) → slot < length numbers → tag < 65535 → is_tag tag (slot_tag (map tag_seen numbers) slot) ≡ eqb (get_or numbers slot 0) tag

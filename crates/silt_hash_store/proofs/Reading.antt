@@ -1,8 +1,8 @@
 -- What reads and writes of a slot give, and which slots a write leaves.
-use Rattle.silt_hash_store.proofs.Common.{◌≡◌, ◌≢◌, ℕ, ◌+◌, ◌*◌, ◌≤◌, ◌<◌, inl, inr, IsTrue, List, length, take, drop, get_or, slice_range, sym, ap, ◌∙◌, arith, cases_lt, get_or-between, add-mul}
+use Rattle.silt_hash_store.proofs.Common.{◌≡◌, ◌≢◌, ℕ, ◌+◌, ◌*◌, ◌≤◌, ◌<◌, inl, inr, IsTrue, List, length, take, drop, get_or, slice_range, sym, ap, ◌∙◌, arith, cases_lt, add-mul}
 use Rattle.silt_hash_store.proofs.Common.{mul-le-mul_right, Content, Torn, Writes, size, Shape, hash_at, row_len, row_of, body_before, HeadSays, HoldsSlots, hash_slot_at, Head}
 use Rattle.silt_disk.proofs.Images.{splice_slice, torn_slice_after, torn_slice_before}
-use Rattle.silt_log.proofs.Parts.{drop_front, slice_of_slice, slice_to_end}
+use Rattle.silt_log.proofs.Parts.{slice_of_slice, slice_to_end}
 use Rattle.silt_hash_store.specs.Slots.{slot_row}
 
 -- a slot lies within its region
@@ -18,7 +18,7 @@ head_read s region slot at image head said same fits read says =
     let body : List ℕ = slice_range image at (at + len) in
     let long : 21 ≤ len = omega arith in
     let front : head ≡ slice_range body 0 21 = read ∙ ap (λ n. slice_range image n (n + 21)) (omega arith) ∙ slice_of_slice image at len 0 21 long fits in
-    search (arith, get_or-between, drop_front)
+    search arith
 
 -- the head of a front that was read is that of the row in the slot
 pub front_read : (s : Shape) (region slot at count : ℕ) (image bytes head : List ℕ) (said : Head) → at ≡ hash_slot_at s region slot → at + row_len s ≤ length image → 21 ≤ count → count ≤ row_len s
@@ -50,14 +50,14 @@ slots_within s region slot count at n end fits within here long = omega (arith, 
 pub slots_read : (s : Shape) (region slot count at n : ℕ) (image bytes : List ℕ) → at ≡ hash_slot_at s region slot → n ≡ count * row_len s
     → at + n ≤ length image → bytes ≡ slice_range image at (at + n) → HoldsSlots s region image slot count bytes
 unfolding slot_row
-slots_read s region slot count at n image bytes here long fits read = grind (arith, body_before, slice_of_slice)
+slots_read s region slot count at n image bytes here long fits read = grind (arith, slice_of_slice)
 
 -- a slot that was written shows the row of its bytes
 pub slot_written : (s : Shape) (region slot at : ℕ) (bytes : List ℕ) (old new : Content) → at ≡ hash_slot_at s region slot
     → length bytes ≡ row_len s → at + row_len s ≤ size old → Writes at bytes old new
     → IsTrue old.honest → slot_row s region new.shown slot ≡ row_of bytes
 unfolding slot_row
-slot_written s region slot at bytes old new same long fits writes honest = grind (arith, splice_slice, writes.shown)
+slot_written s region slot at bytes old new same long fits writes honest = grind (arith, splice_slice)
 
 -- a write of a slot leaves the other slots
 pub slot_elsewhere : (s : Shape) (region slot other : ℕ) (old new : List ℕ) → hash_at s region + 4 * s.buckets * row_len s ≤ length old → slot < 4 * s.buckets → other < 4 * s.buckets → other ≢ slot

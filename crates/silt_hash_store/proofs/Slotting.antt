@@ -1,7 +1,7 @@
 -- When a slot is sound, and what its head means for that.
 use Rattle.silt_hash_store.proofs.Common.{◌≡◌, ℕ, ◌+◌, ◌*◌, ◌≤◌, ◌<◌, ◌==◌, true, false, List, [], ◌∷◌, ◌++◌, length, take, get_or, slice_get, Some, None, refl, ap, ◌∙◌, arith, is_some}
-use Rattle.silt_hash_store.proofs.Common.{cases_Bool, cond-true, cond-false, eq-eqb, eqb-true, get_or-map-range_with_len, length-map-range_with_len, map-range_with_len_more}
-use Rattle.silt_hash_store.proofs.Common.{take-map-range_with_len, slice_get-get_or, first_bucket, second_bucket, Shape, hash_at, row_len, kind_of, tag_of, has_known_kind, StoredRow}
+use Rattle.silt_hash_store.proofs.Common.{cond-true, cond-false, eq-eqb, get_or-map-range_with_len, length-map-range_with_len, map-range_with_len_more, take-map-range_with_len}
+use Rattle.silt_hash_store.proofs.Common.{slice_get-get_or, first_bucket, second_bucket, Shape, hash_at, row_len, kind_of, tag_of, has_known_kind, StoredRow}
 use Rattle.silt_cuckoo.specs.Placing.{other_bucket}
 use Rattle.silt_hash_store.specs.Findings.{holds_key, is_in_bucket, is_sound_hash_slot}
 use Rattle.silt_hash_store.specs.Slots.{hash_rows, rows_before, slot_row}
@@ -43,7 +43,7 @@ before_more s region image n = map-range_with_len_more (slot_row s region image)
 
 -- a row of a known kind is not empty
 pub known_not_empty : (row : StoredRow) → has_known_kind row ≡ true → (row.kind == 0) ≡ false
-known_not_empty row known = grind (arith, cases_Bool, eqb-true)
+known_not_empty row known = grind arith
 
 -- an empty one is of no known kind
 pub empty_not_known : (row : StoredRow) → row.kind ≡ 0 → has_known_kind row ≡ false
@@ -64,18 +64,15 @@ tag_known buckets slot row known = cond-false _ _ _ (known_not_empty row known)
 module _ (s : Shape) (rows : List StoredRow) (slot : ℕ) (row : StoredRow) where
   -- an empty slot is sound
   pub sound_empty : row.kind ≡ 0 → is_sound_hash_slot s rows slot row ≡ true
-  sound_empty empty = grind (arith, eq-eqb)
+  sound_empty empty = grind arith
 
   -- so is one with a row of a known kind in its key's buckets that no earlier slot has
   pub sound_known : has_known_kind row ≡ true → is_in_bucket s slot row.key ≡ true → holds_key row.key (take slot rows) ≡ false → is_sound_hash_slot s rows slot row ≡ true
   sound_known known inside alone = rw (known_not_empty row known, known, inside, alone) refl
 
-  pub unsound_bucket : has_known_kind row ≡ true → is_in_bucket s slot row.key ≡ false → is_sound_hash_slot s rows slot row ≡ false
-  unsound_bucket known outside = rw (known_not_empty row known, known, outside) refl
-
   pub unsound_twice : has_known_kind row ≡ true → holds_key row.key (take slot rows) ≡ true → is_sound_hash_slot s rows slot row ≡ false
-  unsound_twice known held = grind (arith, known_not_empty, unsound_bucket)
+  unsound_twice known held = grind arith
 
   -- what a sound slot with a row of a known kind has
   pub sound_parts : has_known_kind row ≡ true → is_sound_hash_slot s rows slot row ≡ true → (is_in_bucket s slot row.key ≡ true) × (holds_key row.key (take slot rows) ≡ false)
-  sound_parts known sound = grind (arith, cases_Bool, unsound_twice, unsound_bucket)
+  sound_parts known sound = grind (arith, unsound_twice)
