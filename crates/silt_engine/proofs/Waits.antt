@@ -1,9 +1,9 @@
 -- Whether the row that a lookup found waits for a flush.
-use Rattle.silt_engine.proofs.Common.{◌≡◌, ◌≢◌, ◌<◌, ◌≤◌, ◌+◌, ◌-◌, ◌||◌, ℕ, Bool, true, false, nat_le, IsTrue, List, [], ◌∷◌, ◌++◌, length, map, get_or, Option, Some, None, inl, inr, refl, ap, sym}
-use Rattle.silt_engine.proofs.Common.{◌∙◌, subst, arith, list_any, bytes_eq, get, get-insert, get-remove, cases_lt, le-leb, nat_list_cmp_total, get_or-map, list_any_at, get_or_from_slice_get}
-use Rattle.silt_engine.proofs.Common.{slice_get_within, bytes_eq-Decides, Command, Map, changed, delete, map_after, put, command_of, StoredRow, keys_of, FindsLast, HasNoRow, IsLastRow, Found}
-use Rattle.silt_engine.proofs.Common.{all_rows, settled_rows, waiting_rows, all_are_settled_and_waiting, all_count, IsIndexed, Content, EngineState, Stands, waiting_commands, Active, lt-leb}
-use Rattle.silt_engine.proofs.Common.{get_or-append-add, get_or-append_right, list_any_none, same_key, changes_key, is_of_key, is_waiting_row}
+use Rattle.silt_engine.proofs.Common.{◌≡◌, ◌≢◌, ◌<◌, ◌≤◌, ◌+◌, ◌-◌, ℕ, true, false, nat_le, IsTrue, List, [], ◌∷◌, ◌++◌, length, map, get_or, Option, Some, None, inl, inr, refl, ap, sym, ◌∙◌, subst}
+use Rattle.silt_engine.proofs.Common.{arith, list_any, bytes_eq, get, get-insert, get-remove, cases_lt, le-leb, nat_list_cmp_total, get_or-map, list_any_at, get_or_from_slice_get, slice_get_within}
+use Rattle.silt_engine.proofs.Common.{bytes_eq-Decides, Command, Map, changed, delete, map_after, put, command_of, StoredRow, keys_of, FindsLast, HasNoRow, IsLastRow, Found, all_rows, settled_rows}
+use Rattle.silt_engine.proofs.Common.{waiting_rows, all_are_settled_and_waiting, all_count, IsIndexed, Content, EngineState, Stands, waiting_commands, Active, lt-leb, get_or-append-add}
+use Rattle.silt_engine.proofs.Common.{get_or-append_right, list_any_none, same_key, changes_key, is_of_key, is_waiting_row}
 use Rattle.std.proofs.Common.{length-append}
 use Rattle.silt_engine.proofs.Lookups.{other_key}
 
@@ -13,10 +13,6 @@ use Rattle.silt_engine.proofs.Lookups.{other_key}
 other_stays : (m : Map) (command : Command) (key : List ℕ) → is_of_key key command ≡ false → get (changed m command) key ≡ get m key
 other_stays m (put other value) key differs = cc (get-insert nat_list_cmp_total m other value key, same_key key other)
 other_stays m (delete other) key differs = cc (get-remove nat_list_cmp_total m other key, same_key key other)
-
-neither : (a b : Bool) → (a || b) ≡ false → (a ≡ false) × (b ≡ false)
-neither true b none = absurd (cc)
-neither false b none = (refl, none)
 
 -- and after commands of other ones
 pub others_stay : (m : Map) (commands : List Command) (key : List ℕ) → changes_key commands key ≡ false → get (map_after m commands) key ≡ get m key

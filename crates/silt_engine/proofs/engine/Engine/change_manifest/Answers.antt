@@ -34,26 +34,23 @@ returns-in_err-commit_next-clause-wrote g c =
       map = manifest_map _ _ stores _ _ stands may same steps (at_commit stores _ _ _ c.in_ok-prepare_next.ensures.state _ c.commit_next.ensures.each);
     }))
 
-pub returns-clause-ok : goal.returns-clause-ok
-returns-clause-ok g c =
-    let stores : EngineState = state_of c.self.inside in
-    rw (← c.self.view_is) (becomes_current stores _ _ _ c.in_ok-prepare_next.ensures.state _ _ _ _ c.prepare_next.ensures.wrote.changes c.commit_next.ensures.wrote.changes
-    c.in_ok-commit_next.ensures.current c.in_ok-commit_next.ensures.state.0 c.in_ok-commit_next.ensures.new c.in_ok-commit_next.ensures.state.2)
-
-pub returns-clause-map : goal.returns-clause-map
-returns-clause-map g c =
+pub returns : goal.returns
+returns g c =
     let stores : EngineState = state_of c.self.inside in
     let stands = rw (← c.self.view_is) at c.requires.stands in
     let may = rw (← c.self.view_is) at c.requires.next in
-    rw (← c.self.view_is) (manifest_map _ _ stores _ _ stands may (c.commit_next.ensures.wrote.size ∙ c.prepare_next.ensures.wrote.size) (both_steps stores _ _
-    _ c.in_ok-prepare_next.ensures.state _ _ _ c.prepare_next.ensures.wrote.changes c.commit_next.ensures.wrote.changes) (at_commit stores _ _ _
-    c.in_ok-prepare_next.ensures.state _ c.commit_next.ensures.each))
-
-pub returns-clause-wrote : goal.returns-clause-wrote
-returns-clause-wrote g c = rw (← c.self.view_is) (record {
-  size = c.commit_next.ensures.wrote.size ∙ c.prepare_next.ensures.wrote.size;
-  changes = both_steps (state_of c.self.inside) c.args.next.now c.args.digests.now c.prepare_next.new.self c.in_ok-prepare_next.ensures.state (g.D.Disk.content c.args.disk.now)
-      (g.D.Disk.content c.prepare_next.new.disk) (g.D.Disk.content c.commit_next.new.disk) c.prepare_next.ensures.wrote.changes c.commit_next.ensures.wrote.changes;
-  made = made_both c.prepare_next.new.disk c.in_ok-prepare_next.ensures.wrote.made c.in_ok-commit_next.ensures.wrote.made refl refl;
-  failures = c.in_ok-commit_next.ensures.wrote.failures ∙ c.in_ok-prepare_next.ensures.wrote.failures;
-})
+    let first = c.in_ok-prepare_next.ensures in
+    let second = c.in_ok-commit_next.ensures in
+    let same = c.commit_next.ensures.wrote.size ∙ c.prepare_next.ensures.wrote.size in
+    let steps = both_steps stores _ _ _ first.state _ _ _ c.prepare_next.ensures.wrote.changes c.commit_next.ensures.wrote.changes in
+    record {
+      wrote = rw (← c.self.view_is) (record {
+        size = same;
+        changes = steps;
+        made = made_both c.prepare_next.new.disk first.wrote.made second.wrote.made refl refl;
+        failures = second.wrote.failures ∙ first.wrote.failures;
+      });
+      ok = rw (← c.self.view_is) (becomes_current stores _ _ _ first.state _ _ _ _ c.prepare_next.ensures.wrote.changes c.commit_next.ensures.wrote.changes
+          second.current second.state.0 second.new second.state.2);
+      map = rw (← c.self.view_is) (manifest_map _ _ stores _ _ stands may same steps (at_commit stores _ _ _ first.state _ c.commit_next.ensures.each));
+    }

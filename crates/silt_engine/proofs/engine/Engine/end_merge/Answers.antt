@@ -1,4 +1,4 @@
-use Rattle.silt_engine.proofs.Common.{◌≡◌, [], refl, Ok, arith, ⊤, sorted_replaced, most_both}
+use Rattle.silt_engine.proofs.Common.{rules, ◌≡◌, [], refl, Ok, arith, ⊤, sorted_replaced, most_both}
 use Rattle.silt_engine.proofs.engine.Engine.end_merge.Given as given
 use Rattle.silt_engine.proofs.Chains.{honest_after, same_trans}
 use Rattle.silt_engine.proofs.Exits.{on_error, both_went, same_disk, then_broke_off, went_off, went_so}
@@ -30,29 +30,25 @@ replace_sorted-requires g c =
       may_stand_for _ _ _ _ _ settled.works.advances.stands settled.rests c.requires.ends.2 _ c.change_manifest.ensures.wrote.size _ c.in_ok-manifest.ensures.ok,
     )
 
-pub returns-clause-works : goal.returns-clause-works
-returns-clause-works g c =
-    let is = is_replaced g (goal.at.returns-clause-works g c).After-replace_sorted in
-    let settled = c.in_ok-settle_work.ensures in
-    let two = merged_advances _ _ _ _ _ settled.works.advances.stands settled.rests c.requires.ends.2 _ c.change_manifest.ensures.wrote.size _ c.in_ok-manifest.ensures.ok _ is in
-    let rest = went_so {E = ⊤} g.D.Disk [] c.settle_work.new.disk c.change_manifest.new.disk c.args.self.now c.replace_sorted.new.self
-    (Ok c.in_ok-manifest.manifest) (same_disk c.change_manifest.ensures.wrote) settled.works.advances.stands c.in_ok-manifest.ensures.wrote.failures two c.in_ok-manifest.ensures.wrote.made in
-    both_went g.D.Disk [] [] _ _ _ _ _ _ _ _ _ settled.works rest (omega arith) (omega arith)
-
-pub returns-clause-ends : goal.returns-clause-ends
-returns-clause-ends g c =
-    let is = is_replaced g (goal.at.returns-clause-ends g c).After-replace_sorted in
-    let settled = c.in_ok-settle_work.ensures in
-    ends_merged _ _ _ _ _ settled.works.advances.stands settled.rests c.requires.ends.2 _ c.change_manifest.ensures.wrote.size _ c.in_ok-manifest.ensures.ok _ is
-
-pub returns-clause-entries : goal.returns-clause-entries
-returns-clause-entries g c = λ honest.
-    let is = is_replaced g (goal.at.returns-clause-entries g c).After-replace_sorted in
-    let settled = c.in_ok-settle_work.ensures in
-    has_merged_entries _ _ _ _ _ settled.works.advances.stands settled.rests c.requires.ends.2 _ c.change_manifest.ensures.wrote.size _
-    c.in_ok-manifest.ensures.ok _ _ is c.requires.stands honest (honest_after _ _ c.settle_work.ensures.works.same honest) (settled.stores honest)
-
 pub returns-in_err-manifest-clause-works : goal.returns-in_err-manifest-clause-works
 returns-in_err-manifest-clause-works g c =
     went_off g.D.Disk _ _ _ _ _ _ c.from_residual-in_err-manifest.ensures.1 (same_trans _ _ _ c.settle_work.ensures.works.same (same_disk
     c.change_manifest.ensures.wrote)) refl (most_both _ c.in_ok-settle_work.ensures.works.made c.in_err-manifest.ensures.wrote.made (omega arith) (omega arith))
+
+pub returns : goal.returns
+returns g c =
+    let is = is_replaced g (goal.at.returns g c).After-replace_sorted in
+    let settled = c.in_ok-settle_work.ensures in
+    let stands = settled.works.advances.stands in
+    let wrote = c.change_manifest.ensures.wrote in
+    let now = c.in_ok-manifest.ensures in
+    let two = merged_advances _ _ _ _ _ stands settled.rests c.requires.ends.2 _ wrote.size _ now.ok _ is in
+    let rest = went_so {E = ⊤} g.D.Disk [] c.settle_work.new.disk c.change_manifest.new.disk c.args.self.now c.replace_sorted.new.self
+    (Ok c.in_ok-manifest.manifest) (same_disk wrote) stands now.wrote.failures two now.wrote.made in
+    record {
+      works = both_went g.D.Disk [] [] _ _ _ _ _ _ _ _ _ settled.works rest (omega arith) (omega arith);
+      ends = ends_merged _ _ _ _ _ stands settled.rests c.requires.ends.2 _ wrote.size _ now.ok _ is;
+      entries = λ honest. has_merged_entries _ _ _ _ _ stands settled.rests c.requires.ends.2 _ wrote.size _ now.ok _ _ is c.requires.stands honest
+          (honest_after _ _ c.settle_work.ensures.works.same honest) (settled.stores honest);
+      err = search rules;
+    }
