@@ -1,7 +1,7 @@
 -- A session with a browser: its bytes end no line.
-use Rattle.silt_resp.proofs.Common.{◌≡◌, ◌==◌, ℕ, true, false, cond, List, [], ◌∷◌, ◌++◌, length, refl, sym, ap, subst, ◌∙◌, arith, inl, inr, Option, Some, None, Consumes, cases_lt, AnswersEach}
-use Rattle.silt_resp.proofs.Common.{Answer, Query, IsBeginning, ProtocolFault, Settings, RespEnd, End, Closed, ReadFault, NoFeed, Asked, says, AnswersCommands, AnswersSomeCommands, EndsWith}
-use Rattle.silt_resp.proofs.Common.{all_queries, asked_after, asked_each, new_client, asked_texts, line_kind, line_limit, too_long}
+use Rattle.silt_resp.proofs.Common.{◌≡◌, ℕ, false, List, [], ◌∷◌, ◌++◌, length, refl, ap, ◌∙◌, arith, inl, inr, Option, Some, Consumes, cases_lt, AnswersEach, Answer, Query, IsBeginning}
+use Rattle.silt_resp.proofs.Common.{ProtocolFault, Settings, RespEnd, End, Closed, ReadFault, NoFeed, Asked, says, AnswersCommands, AnswersSomeCommands, EndsWith, all_queries, asked_after}
+use Rattle.silt_resp.proofs.Common.{asked_each, new_client, asked_texts, line_kind, line_limit, too_long}
 use Rattle.std.proofs.Common.{append-nil}
 use Rattle.std.specs.Prelude.{IfSome}
 use Rattle.silt_wire.specs.Http.{Guards, IsHttp, ends_line}
@@ -15,43 +15,32 @@ use Rattle.silt_resp.proofs.Runs.{line_over, line_run}
 
 no_feed : (xs : List ℕ) → ends_line xs ≡ false → NoFeed xs
 no_feed [] e = tt
-no_feed (x ∷ xs) e =
-    elim (x == 10) as (λ b. cond b true (ends_line xs) ≡ false → (b ≡ false) × NoFeed xs) [
-      | true ↦ λ told. absurd (cc)
-      | false ↦ λ told. (refl, no_feed xs told)
-    ] e
+no_feed (x ∷ xs) e = search (arith, no_feed xs)
 
 no_feed-front : (xs ys : List ℕ) → NoFeed (xs ++ ys) → NoFeed xs
 no_feed-front [] ys h = tt
 no_feed-front (x ∷ xs) ys h = (h.0, no_feed-front xs ys h.1)
 
 read_no_feed : (given read : List ℕ) (left : Option (List ℕ)) → ends_line given ≡ false → Consumes (Some given) left read → NoFeed read
-read_no_feed given read None none took = absurd took
-read_no_feed given read (Some ys) none took = no_feed-front read ys (subst (λ xs. NoFeed xs) took (no_feed given none))
+read_no_feed given read left none took = search (arith, no_feed-front, no_feed)
 
 -- they end at most one command, which is none
-at_most_fault : (s : Settings) (read : List ℕ) → NoFeed read
-    → (fault : ProtocolFault) × IsBeginning (asked_after s (new_client s) read) (says (broken_text fault) ∷ [])
+at_most_fault : (s : Settings) (read : List ℕ) → NoFeed read → (fault : ProtocolFault) × IsBeginning (asked_after s (new_client s) read) (says (broken_text fault) ∷ [])
 at_most_fault s read none =
     let kind = line_kind 0 read in
     elim (cases_lt (line_limit kind) (length read)) [
-      | inl over ↦ (
-        too_long kind,
-        ([], append-nil (asked_after s (new_client s) read) ∙ ap (asked_each s (visitor_at_first s)) (line_over [] 0 [] read none (omega arith) over).commands_are),
-      )
-      | inr within ↦ (
-        BadCount,
-        (says (broken_text BadCount) ∷ [], ap (λ cs. asked_each s (visitor_at_first s) cs ++ says (broken_text BadCount) ∷ []) (line_run [] 0 [] read none within).commands_are),
-      )
+      | inl over ↦ let asked = ap (asked_each s (visitor_at_first s)) (line_over [] 0 [] read none (omega arith) over).commands_are in
+          (too_long kind, ([], append-nil (asked_after s (new_client s) read) ∙ asked))
+      | inr within ↦
+          let asked = ap (λ cs. asked_each s (visitor_at_first s) cs ++ says (broken_text BadCount) ∷ []) (line_run [] 0 [] read none within).commands_are in
+          (BadCount, (says (broken_text BadCount) ∷ [], asked))
     ]
 
 -- ---- nothing is done
 
 text_only : (asked : List Asked) (text : List ℕ) → IsBeginning asked (says text ∷ []) → (all_queries asked ≡ []) × IsBeginning (asked_texts asked []) text
 text_only [] text h = (refl, (text, refl))
-text_only (x ∷ []) text h =
-    let is : x ≡ says text = cc (h.1) in
-    (ap (λ a. all_queries (a ∷ [])) is, subst (λ a. IsBeginning (asked_texts (a ∷ []) []) text) (sym is) ([], append-nil (text ++ []) ∙ append-nil text))
+text_only (x ∷ []) text h = search (arith, append-nil)
 text_only (x ∷ y ∷ asked) text h = absurd (cc (h.1))
 
 module _ {A : Type 0} (answers : A → A → Query → Answer → Type 0) where
@@ -62,15 +51,12 @@ module _ {A : Type 0} (answers : A → A → Query → Answer → Type 0) where
   none_done : (asked : List Asked) (text : List ℕ) (a b : A) (replies : List Answer) → IsBeginning asked (says text ∷ []) → AnswersEach answers a (all_queries asked) replies b
       → (b ≡ a) × IsBeginning (asked_texts asked replies) text
   none_done asked text a b replies begins each =
-      let only = text_only asked text begins in
-      let told = none_each a b replies (subst (λ es. AnswersEach answers a es replies b) only.0 each) in
-      (told.0, subst (λ rs. IsBeginning (asked_texts asked rs) text) (sym told.1) only.1)
+      let only = text_only asked text begins in search (arith, none_each)
 
   all_told : (asked : List Asked) (fault : ProtocolFault) (a b : A) (before after : Option (List ℕ)) → IsBeginning asked (says (broken_text fault) ∷ [])
       → AnswersCommands answers asked a b before after → (b ≡ a) × WritesAtMostFault before after
   all_told asked fault a b before after begins all =
-      let done = none_done asked (broken_text fault) a b all.0 begins all.1 in
-      (done.0, (fault, asked_texts asked all.0, done.1, all.2))
+      let done = none_done asked (broken_text fault) a b all.0 begins all.1 in (done.0, (fault, asked_texts asked all.0, done.1, all.2))
 
   some_told : (asked : List Asked) (fault : ProtocolFault) (a b : A) (before after : Option (List ℕ)) → IsBeginning asked (says (broken_text fault) ∷ [])
       → AnswersSomeCommands answers asked a b before after → (b ≡ a) × WritesAtMostFault before after
@@ -89,7 +75,4 @@ module _ {A : Type 0} (answers : A → A → Query → Answer → Type 0) where
   pub http_nothing : (end : RespEnd) (s : Settings) (known given left before after : Option (List ℕ)) (a b : A) → Guards known given
       → RespEnds answers end s (new_client s) (record { answerer = a; remaining = given; contents = before }) (record { answerer = b; remaining = left; contents = after })
       → IfSome known (λ bytes. IsHttp bytes → (b ≡ a) × WritesAtMostFault before after)
-  http_nothing end s None given left before after a b guards ends = tt
-  http_nothing end s (Some bytes) None left before after a b guards ends = absurd guards
-  http_nothing end s (Some bytes) (Some given) left before after a b guards ends = λ http.
-      told_ends end s ends.0 a b before after (read_no_feed given ends.0 left (guards.0 http) ends.1) ends.3
+  http_nothing end s known given left before after a b guards ends = search (arith, told_ends, read_no_feed)

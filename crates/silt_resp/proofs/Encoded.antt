@@ -1,9 +1,8 @@
 -- What clients encode is read.
-use Rattle.silt_resp.specs.declared.fault.ProtocolFault.TheVariants.{BadCount}
-use Rattle.silt_resp.proofs.Common.{◌≡◌, ◌<◌, ◌≤◌, ◌+◌, ◌-◌, ◌%◌, ◌==◌, ℕ, suc, true, false, List, [], ◌∷◌, ◌++◌, length, Some, Ok, refl, append_assoc, arith, rules, All, nat_lt, nat_le}
-use Rattle.silt_resp.proofs.Common.{slice_index, if◌then◌else◌, list_all, common_steps, take_at, All-head, All-tail, WordLength, NoFeed, Command, closed, command_read, commands_after, goes_on, line}
-use Rattle.silt_resp.proofs.Common.{line_kind, long, longest_word, next_stream, start, whole, word_ended, word_grown, word_of}
-use Rattle.std.proofs.Common.{◌^◌, map, ◌&&◌, drop, is_some, ap, ◌∙◌}
+use Rattle.silt_resp.proofs.Common.{goes_on, nat_le, suc, false, common_steps, ◌≡◌, ◌<◌, ◌≤◌, ◌+◌, ◌-◌, ◌==◌, ℕ, true, List, [], ◌∷◌, ◌++◌, length, Some, Ok, refl, append_assoc, arith, rules, All}
+use Rattle.silt_resp.proofs.Common.{nat_lt, if◌then◌else◌, list_all, take_at, All-head, All-tail, WordLength, NoFeed, Command, closed, command_read, commands_after, line, line_kind, long}
+use Rattle.silt_resp.proofs.Common.{longest_word, next_stream, start, whole, word_ended, word_grown, word_of}
+use Rattle.std.proofs.Common.{◌^◌, map}
 use Rattle.std.specs.Char.{is_ascii_digit}
 use Rattle.std.specs.Fmt.{decimal}
 use Rattle.std.specs.List.{flat_map}
@@ -12,8 +11,8 @@ use Rattle.std.proofs.lemmas.Fmt.{decimal_by_steps, decimal_nonempty, digits_dec
 use Rattle.std.proofs.lemmas.List.{append-nil, get_or_at, length-append}
 use Rattle.std.proofs.lemmas.Str.Parse.{IsNumeralModel, numerals_by_value}
 use Rattle.silt_wire.specs.Numbers.{number_of}
-use Rattle.silt_resp.specs.Heads.{before_return, bytes_announced, longest_announced, most_announced, within, words_announced, count_announced, number_or, word_count}
-use Rattle.silt_resp.specs.Stream.{IsEncodable, RespLaw, Word, closes, command_bytes, word_bytes, up_to_closing}
+use Rattle.silt_resp.specs.Heads.{before_return, bytes_announced, longest_announced, most_announced, within, words_announced}
+use Rattle.silt_resp.specs.Stream.{IsEncodable, RespLaw, Word, closes, command_bytes, word_bytes}
 use Rattle.silt_resp.proofs.Runs.{Goes, Goes-append, Goes-byte, at_line, at_word, closed_run, line_run, word_run}
 use Rattle.silt_resp.proofs.Streams.{commands_after-append}
 
@@ -31,38 +30,26 @@ digit_is_no_feed n = grind (arith, common_steps)
 
 -- no digit is a line feed
 NoFeed-decimal : (n : ℕ) → n < 2 ^ 64 → NoFeed (decimal n)
-NoFeed-decimal n fits =
-    decimal_by_steps (λ _ ds. NoFeed ds) (λ m _. (digit_is_no_feed m, tt))
-    (λ m ds _ h. NoFeed-append ds ((48 + m % 10) ∷ []) h (digit_is_no_feed (m % 10), tt)) n fits
+NoFeed-decimal n fits = decimal_by_steps (λ _ ds. NoFeed ds) (λ m _. (digit_is_no_feed m, tt)) (λ m ds _ h. NoFeed-append ds _ h (digit_is_no_feed _, tt)) n fits
 
 -- the number of a decimal text
 number_of-decimal : (n : ℕ) → n ≤ 4294967295 → number_of (decimal n) ≡ Some n
 number_of-decimal n small =
     let fits : n < 2 ^ 64 = omega arith in
-    let some : nat_le 1 (length (decimal n)) ≡ true = grind (arith, common_steps, decimal_nonempty n fits) in
-    let short : nat_le (length (decimal n)) 10 ≡ true = grind (arith, common_steps, length-decimal-le 10 n (omega arith) (omega arith) fits) in
-    let most : nat_le n 4294967295 ≡ true = grind (arith, common_steps) in
-    cc (digits_decimal own n fits, digits_value-decimal own n fits)
+    let some = decimal_nonempty n fits in
+    let short = length-decimal-le 10 n (omega arith) (omega arith) fits in
+    grind (arith, common_steps, digits_decimal own n fits, digits_value-decimal own n fits)
 
 within-small : (most n : ℕ) → n ≤ most → within most (Some n) ≡ Some n
 within-small most n small = let few : nat_le n most ≡ true = grind (arith, common_steps) in cc
 
 -- a carriage return is taken off
 before_return-of : (text : List ℕ) → before_return (text ++ 13 ∷ []) ≡ Some text
-before_return-of text =
-    let last : length (text ++ 13 ∷ []) - 1 ≡ length text = omega (arith, length-append text (13 ∷ [])) in
-    cc (get_or_at text 13 [] 0 (length text) refl, take_at text (13 ∷ []) (length text) refl)
+before_return-of text = search (arith, length-append, get_or_at, take_at)
 
 -- a number of words is read
 count_read : (n : ℕ) → 1 ≤ n → n ≤ most_announced → words_announced (42 ∷ (decimal n ++ 13 ∷ [])) ≡ Ok n
-count_read n some most =
-    let fits : n < 2 ^ 64 = omega arith in
-    let first = first_decimal n some fits in
-    let positive : (slice_index (decimal n) 0 == 45) ≡ false = grind (arith, common_steps, first) in
-    let count : word_count (decimal n) ≡ Some n =
-    ap (λ b. if b && is_some (number_of (drop 1 (decimal n))) then Some 0 else within most_announced (number_of (decimal n))) positive
-    ∙ ap (within most_announced) (number_of-decimal n (omega arith)) ∙ within-small most_announced n most in
-    ap count_announced (before_return-of (decimal n)) ∙ ap (number_or BadCount) count
+count_read n some most = search (arith, first_decimal, number_of-decimal, within-small, before_return-of)
 
 -- the length of a word is read
 length_read : (n : ℕ) → n ≤ longest_announced → bytes_announced (36 ∷ (decimal n ++ 13 ∷ [])) ≡ Ok n
@@ -73,8 +60,7 @@ head_fits : (mark n : ℕ) → n ≤ longest_announced → (mark == 10) ≡ fals
 head_fits mark n most other =
     let fits : n < 2 ^ 64 = omega arith in
     let short = length-decimal-le 10 n (omega arith) (omega arith) fits in
-    let size = length-append (decimal n) (13 ∷ []) in
-    ((other, NoFeed-append (decimal n) (13 ∷ []) (NoFeed-decimal n fits) (refl, tt)), omega (arith, short, size))
+    search (arith, length-append, NoFeed-append, NoFeed-decimal)
 
 -- ---- commands
 
@@ -94,16 +80,12 @@ length_goes : (words : List Word) (left n : ℕ) → n ≤ longest_announced
     → Goes (at_line words (suc left) []) ((36 ∷ (decimal n ++ 13 ∷ [])) ++ 10 ∷ []) (at_word words (suc left) (n + 2) (new_word n)) []
 length_goes words left n most =
     let text = 36 ∷ (decimal n ++ 13 ∷ []) in
-    let here = at_line words (suc left) text in
     let fits = head_fits 36 n most refl in
-    let due : nat_lt 0 (suc left) ≡ true = grind (arith, common_steps) in
-    let kind : line_kind (suc left) text ≡ WordLength = cc in
-    let run = line_run words (suc left) [] text fits.0 (rw kind fits.1) in
-    Goes-append run (Goes-byte here 10 (at_word words (suc left) (n + 2) (new_word n)) [] (cc (length_read n most)))
+    let kind : line_kind (suc left) text ≡ WordLength = search arith in
+    Goes-append (line_run words (suc left) [] text fits.0 (rw kind fits.1)) (Goes-byte (at_line words (suc left) text) 10 (at_word words (suc left) (n + 2) (new_word n)) [] (cc (length_read n most)))
 
 new_word-grown : (word : List ℕ) → word_grown (new_word (length word)) word ≡ word_of word
-new_word-grown word =
-    elim (nat_lt longest_word (length word)) as (λ b. word_grown (if b then long else whole []) word ≡ (if b then long else whole word)) [ true ↦ refl | false ↦ refl ]
+new_word-grown word = search arith
 
 -- the bytes of a word and its end
 word_goes : (words : List Word) (left : ℕ) (word : List ℕ) → Goes (at_word words left (length word + 2) (new_word (length word))) word (at_word words left 2 (word_of word)) []
@@ -118,10 +100,8 @@ encoded_word : (words : List Word) (left : ℕ) (word : List ℕ) → length wor
 encoded_word words left word short =
     let last = at_word words (suc left) 1 (word_of word) in
     let done = word_ended last (word_of word) in
-    let return = Goes-byte (at_word words (suc left) 2 (word_of word)) 13 last [] refl in
-    let all = Goes-append (length_goes words left (length word) short) (Goes-append (word_goes words (suc left) word) (Goes-append return (Goes-byte last 10 done.0 done.1 refl))) in
-    let same : (36 ∷ (decimal (length word) ++ 13 ∷ [])) ++ 10 ∷ [] ++ (word ++ (13 ∷ [] ++ 10 ∷ [])) ≡ word_bytes word = simp append_assoc in
-    rw same at all
+    let end = Goes-append (Goes-byte (at_word words (suc left) 2 (word_of word)) 13 last [] refl) (Goes-byte last 10 done.0 done.1 refl) in
+    let all = Goes-append (length_goes words left (length word) short) (Goes-append (word_goes words (suc left) word) end) in search (arith, append_assoc)
 
 -- the words of a command
 encoded_words : (words : List Word) (word : List ℕ) (rest : List (List ℕ)) → All (λ w. length w ≤ longest_announced) (word ∷ rest)
@@ -145,8 +125,7 @@ encoded_command [] h = absurd (omega (arith, h.some))
 encoded_command (word ∷ rest) h =
     let n = length (word ∷ rest) in
     let all = Goes-append (count_goes n h.some h.most) (encoded_words [] word rest h.short) in
-    let same : ((42 ∷ (decimal n ++ 13 ∷ [])) ++ 10 ∷ []) ++ flat_map word_bytes (word ∷ rest) ≡ command_bytes (word ∷ rest) = simp append_assoc in
-    rw same at all
+    search (arith, append_assoc)
 
 -- behind a command that closes the stream no command is read
 after_command : (command : Command) (bytes : List ℕ) (commands : List Command) → commands_after start bytes ≡ commands
@@ -159,12 +138,4 @@ after_command command bytes commands h =
 
 pub resp_law : RespLaw
 resp_law [] h = refl
-resp_law (words ∷ commands) h =
-    let command = command_read (map word_of words) in
-    let first = encoded_command words (All-head IsEncodable words commands h) in
-    let rest = resp_law commands (All-tail IsEncodable words commands h) in
-    let more = flat_map command_bytes commands in
-    commands_after-append start (command_bytes words) more
-    ∙ ap (λ s. commands_after start (command_bytes words) ++ commands_after s more) first.stream
-    ∙ ap (λ cs. cs ++ commands_after (next_stream command) more) first.commands_are
-    ∙ ap (λ cs. command ∷ cs) (after_command command more (up_to_closing (map (λ ws. command_read (map word_of ws)) commands)) rest)
+resp_law (words ∷ commands) h = search (arith, resp_law commands (All-tail IsEncodable words commands h), encoded_command, All-head, All-tail, commands_after-append, after_command)

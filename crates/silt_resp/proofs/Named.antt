@@ -1,5 +1,5 @@
 -- Keys and puts, one word after the other.
-use Rattle.silt_resp.proofs.Common.{◌≡◌, ◌<◌, ◌+◌, ℕ, suc, List, [], ◌∷◌, ◌++◌, length, drop, get_or, Option, Some, None, Result, Ok, Err, refl, sym, ap, ◌∙◌, append_assoc, arith, inl, inr, All}
+use Rattle.silt_resp.proofs.Common.{◌≡◌, ◌<◌, ◌+◌, ℕ, suc, List, [], ◌∷◌, ◌++◌, length, drop, get_or, Option, Some, None, Result, Ok, Err, refl, ap, ◌∙◌, append_assoc, arith, inl, inr, All}
 use Rattle.silt_resp.proofs.Common.{slice_get, drop_of_length-le, drop-cons, slice_get-get_or, Event, Delete, Get, Put, HasValueOf, keys_named, puts_named, long}
 use Rattle.std.specs.Prelude.{map, ok_or}
 use Rattle.std.proofs.lemmas.List.Elements.{All-cons, All-nil}
@@ -35,9 +35,7 @@ keys_with keys rest = and_then (keys_named rest) (λ more. Ok (keys ++ more))
 
 keys_first : (r : Result Key CommandFault) (key : Key) (m : Result (List Key) CommandFault) (keys : List Key) → r ≡ Ok key
     → and_then (and_then r (λ k. and_then m (λ ks. Ok (k ∷ ks)))) (λ ks. Ok (keys ++ ks)) ≡ and_then m (λ ks. Ok ((keys ++ key ∷ []) ++ ks))
-keys_first r key (Ok ks) keys e =
-    ap (λ q. and_then (and_then q (λ k. Ok (k ∷ ks))) (λ more. Ok (keys ++ more))) e ∙ ap (λ more. Ok more) (sym (append_assoc keys (key ∷ []) ks))
-keys_first r key (Err fault) keys e = ap (λ q. and_then (and_then q (λ k. Err fault)) (λ more. Ok (keys ++ more))) e
+keys_first r key m keys e = search (arith, append_assoc)
 
 -- one key more
 pub keys_more : (args : List Word) (index : ℕ) (key : Key) (keys : List Key) → key_at args index ≡ Ok key → keys_named args ≡ keys_with keys (drop index args)
@@ -60,14 +58,9 @@ keys_fault args index fault keys e within h =
 abbrev pub puts_with : ℕ → List Event → List Word → Result (List Event) CommandFault
 puts_with len puts rest = and_then (puts_named len rest) (λ more. Ok (puts ++ more))
 
-puts_first : (r : Result Key CommandFault) (s : Result (List ℕ) CommandFault) (key : Key) (value : List ℕ) (m : Result (List Event) CommandFault) (puts : List Event)
-    → r ≡ Ok key → s ≡ Ok value
+puts_first : (r : Result Key CommandFault) (s : Result (List ℕ) CommandFault) (key : Key) (value : List ℕ) (m : Result (List Event) CommandFault) (puts : List Event) → r ≡ Ok key → s ≡ Ok value
     → and_then (and_then r (λ k. and_then s (λ v. and_then m (λ ps. Ok (Put k v ∷ ps))))) (λ ps. Ok (puts ++ ps)) ≡ and_then m (λ ps. Ok ((puts ++ Put key value ∷ []) ++ ps))
-puts_first r s key value (Ok ps) puts e f =
-    ap (λ q. and_then (and_then q (λ k. and_then s (λ v. Ok (Put k v ∷ ps)))) (λ more. Ok (puts ++ more))) e
-    ∙ ap (λ q. and_then (and_then q (λ v. Ok (Put key v ∷ ps))) (λ more. Ok (puts ++ more))) f
-    ∙ ap (λ more. Ok more) (sym (append_assoc puts (Put key value ∷ []) ps))
-puts_first r s key value (Err fault) puts e f = cc
+puts_first r s key value m puts e f = search (arith, append_assoc)
 
 -- one put more
 pub puts_more : (len : ℕ) (args : List Word) (at : ℕ) (key : Key) (value : List ℕ) (puts : List Event) → key_at args at ≡ Ok key → value_at len args (at + 1) ≡ Ok value
@@ -76,14 +69,14 @@ puts_more len args at key value puts e f h =
     let first = named_word key_named (slice_get args at) key e in
     let second = named_word (value_named len) (slice_get args (at + 1)) value f in
     let two : at + 1 + 1 ≡ at + 2 = omega arith in
-    let rest = ap (λ n. second.0 ∷ drop n args) two in
-    h ∙ ap (puts_with len puts) (drop_there args at first.0 first.1 ∙ ap (λ ws. first.0 ∷ ws) (drop_there args (at + 1) second.0 second.1 ∙ rest))
-    ∙ puts_first (key_named first.0) (value_named len second.0) key value (puts_named len (drop (at + 2) args)) puts first.2 second.2
+    cc (
+      drop_there args at first.0 first.1,
+      drop_there args (at + 1) second.0 second.1,
+      puts_first (key_named first.0) (value_named len second.0) key value (puts_named len (drop (at + 2) args)) puts first.2 second.2,
+    )
 
 bad_key : (len : ℕ) (word : Word) (words : List Word) (fault : CommandFault) → key_named word ≡ Err fault → puts_named len (word ∷ words) ≡ Err fault
-bad_key len word [] fault e = ap (λ r. and_then r (λ key. Err BadSyntax)) e
-bad_key len word (next ∷ words) fault e =
-    ap (λ r. and_then r (λ key. and_then (value_named len next) (λ value. and_then (puts_named len words) (λ puts. Ok (Put key value ∷ puts))))) e
+bad_key len word words fault e = search arith
 
 after_fault : (puts : List Event) (r : Result (List Event) CommandFault) (fault : CommandFault) → r ≡ Err fault → and_then r (λ more. Ok (puts ++ more)) ≡ Err fault
 after_fault puts r fault e = ap (λ q. and_then q (λ more. Ok (puts ++ more))) e
@@ -110,23 +103,19 @@ pub puts_value_fault : (len : ℕ) (args : List Word) (at : ℕ) (key : Key) (fa
 puts_value_fault len args at key fault puts e f h =
     let first = named_word key_named (slice_get args at) key e in
     let cut = drop_there args at first.0 first.1 in
-    let told : puts_named len (first.0 ∷ drop (at + 1) args) ≡ Err fault =
+    let named = first.2 in
     elim ((slice_get_cases args (at + 1)).1) [
       | inl there ↦
-          ap (λ ws. puts_named len (first.0 ∷ ws)) (drop_there args (at + 1) there.0 there.2)
-          ∙ bad_value len first.0 there.0 (drop (at + 1 + 1) args) key fault first.2 (unnamed_word (value_named len) (slice_get args (at + 1)) there.0 fault there.2 f)
-      | inr past ↦
-          let none : Err BadSyntax ≡ Err fault = sym (ap (λ o. and_then (ok_or o BadSyntax) (value_named len)) past.1) ∙ f in
-          let same : BadSyntax ≡ fault = cc in
-          cc (drop_of_length-le args past.0, no_value len first.0 key first.2)
-    ] in
-    h ∙ ap (puts_with len puts) cut ∙ after_fault puts (puts_named len (first.0 ∷ drop (at + 1) args)) fault told
+          cc (
+            drop_there args (at + 1) there.0 there.2,
+            bad_value len first.0 there.0 (drop (at + 1 + 1) args) key fault first.2 (unnamed_word (value_named len) (slice_get args (at + 1)) there.0 fault there.2 f),
+          )
+      | inr past ↦ cc (drop_of_length-le args past.0, no_value len first.0 key first.2, past.1)
+    ]
 
 -- a value that is there is within the words
 pub value_within : (len : ℕ) (args : List Word) (index : ℕ) (value : List ℕ) → value_at len args index ≡ Ok value → index < length args
-value_within len args index value e =
-    let found = named_word (value_named len) (slice_get args index) value e in
-    slice_get_within args index found.0 found.1
+value_within len args index value e = search (arith, named_word, slice_get_within)
 
 -- ---- events without values
 
@@ -136,4 +125,4 @@ looks_fit len (key ∷ keys) = All-cons (HasValueOf len) (Get key) (map (λ k. G
 
 pub deletes_fit : (len : ℕ) (keys : List Key) → All (HasValueOf len) (map (λ key. Delete key) keys)
 deletes_fit len [] = All-nil (HasValueOf len)
-deletes_fit len (key ∷ keys) = All-cons (HasValueOf len) (Delete key) (map (λ k. Delete k) keys) tt (deletes_fit len keys)
+deletes_fit len (key ∷ keys) = search (arith, deletes_fit len keys, All-cons)

@@ -9,6 +9,5 @@ returns-clause-fits c =
     let len = c.args.settings.now.value_len in
     let looks = map (λ key. Get key) c.deref.result.now in
     let deletes = map (λ key. Delete key) c.deref-2.result.now in
-    All-same (HasValueOf len) _ _
-    (c.in_ok-push_deletes.ensures ∙ ap (λ l. l ++ deletes) (c.in_ok-push_looks.ensures ∙ ap (λ l. l ++ looks) c.new-events.ensures.items))
-    (All-append (HasValueOf len) looks deletes (looks_fit len c.deref.result.now) (deletes_fit len c.deref-2.result.now))
+    All-same (HasValueOf len) _ _ (c.in_ok-push_deletes.ensures ∙ ap (λ l. l ++ deletes) (c.in_ok-push_looks.ensures ∙ ap (λ l. l ++ looks) c.new-events.ensures.items)) (All-append (HasValueOf len)
+    looks deletes (looks_fit len c.deref.result.now) (deletes_fit len c.deref-2.result.now))

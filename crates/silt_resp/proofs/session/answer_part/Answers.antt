@@ -1,4 +1,4 @@
-use Rattle.silt_resp.proofs.Common.{Bool, List, Some, rules, subst, take, ℕ, IsBeginning, Appends, AnswersQuery, IsBehind, ServesCommands, asked_after}
+use Rattle.silt_resp.proofs.Common.{Some, rules, take, AnswersQuery, ServesCommands, asked_after}
 use Rattle.silt_wire.proofs.Answering.{if-either}
 use Rattle.silt_resp.proofs.Doing.{all-wrote, closed-part, some-taken, some-written}
 use Rattle.silt_resp.proofs.session.answer_part.Goals as goal
@@ -7,12 +7,11 @@ pub returns-then-not-write_texts-clause-ends : goal.returns-then-not-write_texts
 returns-then-not-write_texts-clause-ends g c =
     let answers = (AnswersQuery g.A.Answerer.answers g.A.Answerer.administers) in
     let s = c.args.settings.now in
-    let gathered = if-either c.take_part-taken.result
-    (λ part all client h. some-taken answers s client c.args.bytes.now part.count _ _ (Some c.new-texts.result.items) (Some c.take_part-taken.new.texts.items) (all client h))
-    c.take_part-taken.ensures.all c.take_part-taken.ensures.some in
+    let gathered = if-either c.take_part-taken.result (λ part all client h. some-taken answers s client c.args.bytes.now part.count _ _ (Some c.new-texts.result.items)
+    (Some c.take_part-taken.new.texts.items) (all client h)) c.take_part-taken.ensures.all c.take_part-taken.ensures.some in
     let wrote = c.write_texts.ensures.some in
     λ client h. some-written answers _ _ _ c.new-texts.result.items c.take_part-taken.new.texts.items wrote.0 _ _ c.new-texts.ensures.items (gathered client h)
-    (subst (λ (t : List ℕ). IsBeginning wrote.0 t) c.deref.ensures.value wrote.1) wrote.2
+    (rw c.deref.ensures.value at wrote.1) wrote.2
 
 pub returns-then-gathered-clause-ends : goal.returns-then-gathered-clause-ends
 returns-then-gathered-clause-ends g c = λ client h.
@@ -25,9 +24,8 @@ returns-then-gathered-clause-ends g c = λ client h.
     let before = g.W.Write.contents c.args.writer.now in
     let after = g.W.Write.contents c.write_texts.new.writer in
     let wrote = c.write_texts.ensures.all (search rules) in
-    let behind = subst (λ (b : Bool). IsBehind s client front b c.take_part-taken.new.talk) c.if-gathered.true (c.in-Ok.ensures.behind client h) in
+    let behind = rw c.if-gathered.true at (c.in-Ok.ensures.behind client h) in
     let texts = c.take_part-taken.new.texts.items in
-    let all : ServesCommands answers s client front old new before after =
-    all-wrote answers (asked_after s client front) old new c.new-texts.result.items texts before after c.new-texts.ensures.items (c.in-Ok.ensures.all client h)
-    (subst (λ (t : List ℕ). Appends before after t) c.deref.ensures.value wrote) in
+    let all : ServesCommands answers s client front old new before after = all-wrote answers (asked_after s client front) old new c.new-texts.result.items texts before after
+    c.new-texts.ensures.items (c.in-Ok.ensures.all client h) (rw c.deref.ensures.value at wrote) in
     closed-part answers s client c.args.bytes.now count old new before after behind all

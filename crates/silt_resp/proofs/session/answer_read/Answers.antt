@@ -1,7 +1,7 @@
-use Rattle.std.proofs.Common.{List, arith, rules, subst, take, ℕ}
+use Rattle.std.proofs.Common.{arith, rules}
 use Rattle.silt_event.specs.Queries.{AnswersQuery}
 use Rattle.silt_resp.specs.Batches.{HoldsClient}
-use Rattle.silt_resp.specs.Sessions.{Client, EndsWith, ServesCommands, client_after}
+use Rattle.silt_resp.specs.Sessions.{Client, EndsWith}
 use Rattle.silt_resp.proofs.Doing.{all-part, ends-part}
 use Rattle.silt_resp.proofs.Gathering.{client_part}
 use Rattle.silt_resp.proofs.session.answer_read.Goals as goal
@@ -15,11 +15,9 @@ returns-in_err-done-clause-ends g c =
     let end = c.in_err-done.field-0.0 in
     let before = g.W.Write.contents c.args.writer.now in
     let after = g.W.Write.contents c.answer_part.new.writer in
-    let told : (client : Client) → HoldsClient c.args.talk.now client → EndsWith answers end s client bytes c.args.answerer.now c.answer_part.new.answerer before after =
-    λ client h.
+    let told : (client : Client) → HoldsClient c.args.talk.now client → EndsWith answers end s client bytes c.args.answerer.now c.answer_part.new.answerer before after = λ client h.
     let so_far = c.loop-done.invariant.told client h in
-    let P = λ (r : List ℕ). EndsWith answers end s (client_after s client (take done bytes)) r c.loop-done.answerer c.answer_part.new.answerer (g.W.Write.contents c.loop-done.writer) after in
-    ends-part answers end s client bytes done _ _ _ _ _ _ so_far.all (subst P c.split_at.ensures.back (c.in_err-done.ensures.ends _ so_far.holds)) in
+    ends-part answers end s client bytes done _ _ _ _ _ _ so_far.all (rw c.split_at.ensures.back at (c.in_err-done.ensures.ends _ so_far.holds)) in
     search (rules, told)
 
 pub loop-done-preserved : goal.loop-done-preserved
@@ -36,10 +34,8 @@ loop-done-preserved g c =
       stays = c.answer_part.ensures.stays;
       told = λ client h.
           let before = c.loop-done.invariant.told client h in
-          let P = λ (r : List ℕ). ServesCommands answers s (client_after s client (take done bytes)) (take count r) c.loop-done.answerer
-          c.answer_part.new.answerer (g.W.Write.contents c.loop-done.writer) (g.W.Write.contents c.answer_part.new.writer) in
           record {
             holds = client_part s client bytes _ done count c.answer_part.new.talk c.split_at.ensures.back (c.in_ok-done.ensures.holds _ before.holds);
-            all = all-part answers s client bytes done count _ _ _ _ _ _ before.all (subst P c.split_at.ensures.back (c.in_ok-done.ensures.all _ before.holds));
+            all = all-part answers s client bytes done count _ _ _ _ _ _ before.all (rw c.split_at.ensures.back at (c.in_ok-done.ensures.all _ before.holds));
           };
     }

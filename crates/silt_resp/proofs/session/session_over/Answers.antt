@@ -1,4 +1,4 @@
-use Rattle.silt_resp.proofs.Common.{◌++◌, subst, sym, take, AnswersQuery, HoldsClient, Client, new_client}
+use Rattle.silt_resp.proofs.Common.{◌++◌, take, AnswersQuery, new_client}
 use Rattle.silt_wire.proofs.Streams.{Consumes-append, Consumes-keeps}
 use Rattle.silt_resp.proofs.Doing.{all-bytes, client_after-append, ends-bytes, last_cut}
 use Rattle.silt_resp.proofs.session.session_over.Goals as goal
@@ -24,12 +24,11 @@ loop-preserved g c =
     elim c.match-read.branch [
       | in-Ok+in-Ok-answer_read w ↦
           let more = take w.in-Ok.count c.read.new.buf in
-          let P = λ (cl : Client). HoldsClient w.answer_read.new.talk cl in
           rw (w.writer-is, w.answerer-is, w.talk-is) (
             w.answer_read.ensures.stays,
             i.1 ++ more,
             Consumes-append _ _ _ i.1 more i.2 w.in-Ok.ensures.bytes.0,
-            subst P (sym (client_after-append s client i.1 more)) (w.in-Ok-answer_read.ensures.holds _ i.3),
+            rw (client_after-append s client i.1 more) (w.in-Ok-answer_read.ensures.holds _ i.3),
             all-bytes (AnswersQuery g.A.Answerer.answers g.A.Answerer.administers) s client i.1 more _ _ _ _ _ _ i.4 (w.in-Ok-answer_read.ensures.all _ i.3),
           )
       | in-Err w ↦ rw (w.writer-is, w.answerer-is, w.talk-is) (i.0, i.1, Consumes-keeps _ _ _ _ i.2 w.in-Err.ensures.bytes, i.3, i.4)

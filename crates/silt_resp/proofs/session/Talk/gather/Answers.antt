@@ -1,16 +1,12 @@
-use Rattle.std.proofs.Common.{◌+◌, Bool, arith, rules, subst, take}
-use Rattle.silt_resp.specs.Batches.{IsBehind}
-use Rattle.silt_resp.specs.Sessions.{client_after}
+use Rattle.std.proofs.Common.{◌+◌, arith, rules}
 use Rattle.silt_resp.proofs.Gathering.{behind_part, client_part, gathers_keeps, gathers_part, gathers_some}
 use Rattle.silt_resp.proofs.session.Talk.gather.Goals as goal
 
 pub returns-in_err-piece-clause-some : goal.returns-in_err-piece-clause-some
 returns-in_err-piece-clause-some c = λ client h.
-    let before = c.loop-count.invariant.told client h in
-    let s = c.args.settings.now in
-    let done = c.loop-count.count in
-    gathers_some s client c.args.bytes.now done c.args.batch.now c.gather_command.new.batch
-    (gathers_keeps s client (take done c.args.bytes.now) c.args.batch.now c.loop-count.batch c.gather_command.new.batch before.all c.in_err-piece.ensures.err)
+    let so_far = c.loop-count.invariant.told client h in
+    gathers_some c.args.settings.now client c.args.bytes.now c.loop-count.count c.args.batch.now c.gather_command.new.batch
+    (gathers_keeps c.args.settings.now client _ c.args.batch.now c.loop-count.batch c.gather_command.new.batch so_far.all c.in_err-piece.ensures.err)
 
 pub returns-then-piece-clause-behind : goal.returns-then-piece-clause-behind
 returns-then-piece-clause-behind c = λ client h.
@@ -45,9 +41,8 @@ loop-count-preserved c =
       unended = search rules;
       told = λ client h.
           let before = c.loop-count.invariant.told client h in
-          let Behind = λ (b : Bool). IsBehind s (client_after s client (take done bytes)) (take count c.split_at.result.1.now) b c.gather_command.new.self in
           record {
-            holds = client_part s client bytes _ done count c.gather_command.new.self c.split_at.ensures.back (subst Behind c.if-piece.false (c.in_ok-piece.ensures.behind _ before.holds));
+            holds = client_part s client bytes _ done count c.gather_command.new.self c.split_at.ensures.back (rw c.if-piece.false at (c.in_ok-piece.ensures.behind _ before.holds));
             all = gathers_part s client bytes _ done count c.args.batch.now c.loop-count.batch c.gather_command.new.batch c.split_at.ensures.back before.all (c.in_ok-piece.ensures.all _ before.holds);
           };
     }
