@@ -1,7 +1,5 @@
 -- Shards with values of one length.
-use Rattle.std.proofs.Common.{◌≡◌, ℕ, List, ◌∷◌, length, arith, rules}
-use Rattle.std.specs.Prelude.{All}
-use Rattle.silt_shards.specs.Sets.{IsSet, value_len_of}
+use Rattle.silt_shards.proofs.Common.{◌≡◌, ℕ, List, ◌∷◌, length, arith, rules, All, IsSet, value_len_of}
 
 module _ {A : Type 0} (value_len : A → ℕ) where
   -- as many shards, whose values have the length that the values of the set had

@@ -1,17 +1,8 @@
 -- Attempts that become the stores of a set.
-use Rattle.std.proofs.Math.Seq.{take-append_seam}
-use Rattle.std.proofs.Common.{◌≡◌, ◌<◌, ℕ, suc, List, [], ◌∷◌, ◌++◌, length, append_assoc, Result, Ok, Err, refl, ap, sym, ◌∙◌, arith, rules}
-use Rattle.std.specs.List.{AllZip}
-use Rattle.std.proofs.lemmas.List.{append-nil}
-use Rattle.std.proofs.lemmas.Slice.Zip.{AllZip-long}
-use Rattle.std.specs.Prelude.{IfOk, IfSome, drop, slice_get, slice_index_or, take}
-use Rattle.silt_disk.specs.declared.disk.Disk.{Ghosts}
+use Rattle.silt_shards.proofs.Common.{take-append_seam, ◌≡◌, ◌<◌, ℕ, suc, List, [], ◌∷◌, ◌++◌, length, append_assoc, Result, Ok, Err, refl, ap, sym, ◌∙◌, arith, rules, AllZip, append-nil}
+use Rattle.silt_shards.proofs.Common.{AllZip-long, IfOk, IfSome, drop, slice_get, slice_index_or, take, Ghosts, CoreState, Opens, IsAttemptOn, CausedAt, IsRefusedSet, SetCause}
 use Rattle.silt_recovery.specs.Opening.{LeavesNoOther}
-use Rattle.silt_store_set.specs.CoreState.{CoreState, Opens}
-use Rattle.silt_shards.specs.Attempts.{IsAttemptOn}
-use Rattle.silt_shards.specs.Opening.{CausedAt, IsRefusedSet}
 use Rattle.silt_shards.specs.declared.attempt.Attempt.{Attempt}
-use Rattle.silt_shards.specs.declared.fault.SetCause.{SetCause}
 use Rattle.silt_shards.proofs.Openings.{open_more, refused_next}
 
 -- ---- lists

@@ -1,13 +1,9 @@
 -- The replies of shards to a flush, joined one after the other.
-use Rattle.std.proofs.Common.{◌≡◌, ℕ, ◌+◌, ◌-◌, ◌^◌, true, false, not, Option, Some, None, List, [], ◌∷◌, ◌++◌, min, refl, ap, arith}
-use Rattle.std.specs.Prelude.{All, find, sum_by, unwrap_or}
-use Rattle.std.specs.Option.{option_or}
-use Rattle.std.proofs.lemmas.List.Elements.{All-cons, All-nil}
+use Rattle.silt_shards.proofs.Common.{◌≡◌, ℕ, ◌+◌, ◌-◌, ◌^◌, true, false, not, Option, Some, None, List, [], ◌∷◌, ◌++◌, min, refl, ap, arith, All, sum_by, unwrap_or, option_or, All-cons, All-nil}
+use Rattle.silt_shards.proofs.Common.{PlainReply, acknowledged_by, Accepted, Acknowledged, acknowledges, as_count, joined}
+use Rattle.std.specs.Prelude.{find}
 use Rattle.std.proofs.lemmas.List.Folds.{find-append}
 use Rattle.std.proofs.lemmas.List.Sums.{sum_by-append}
-use Rattle.silt_event.specs.Events.{PlainReply, acknowledged_by}
-use Rattle.silt_event.specs.declared.reply.Reply.TheVariants.{Accepted, Acknowledged}
-use Rattle.silt_shards.specs.Sets.{acknowledges, as_count, joined}
 
 -- the sum of what replies acknowledge
 abbrev pub sum_of : List PlainReply → ℕ

@@ -1,21 +1,9 @@
 -- A key's event in one part of a map, and in the whole.
-use Rattle.std.proofs.Common.{◌≡◌, ℕ, false, Option, Some, None, List, refl, ap, sym, ◌∙◌, arith, rules}
+use Rattle.silt_shards.proofs.Common.{◌≡◌, ℕ, false, Option, Some, None, List, refl, ap, sym, ◌∙◌, arith, rules, slice_cmp, cases_Bool, nat_list_cmp_total, bytes_eq-Decides, same_key, Map}
+use Rattle.silt_shards.proofs.Common.{changed, delete, put, setting, PlainReply, Step, plain, Event, Put, Delete, Swap, Flush, Get, Reply, Accepted, Found, Absent, Differs, Refused, Key, SetStep}
 use Rattle.std.specs.FinMap.{get, get-insert, get-remove}
-use Rattle.std.specs.Cmp.Lexicographic.{slice_cmp}
 use Rattle.std.specs.Ordering.{nat_cmp, eq_by_cmp}
 use Rattle.std.specs.Str.{bytes_eq}
-use Rattle.std.proofs.lemmas.Bool.{cases_Bool}
-use Rattle.std.proofs.lemmas.Cmp.{nat_list_cmp_total}
-use Rattle.std.proofs.lemmas.Slice.Eq.{bytes_eq-Decides}
-use Rattle.silt_event.proofs.Rows.{same_key}
-use Rattle.silt_event.specs.Commands.{Map, changed, delete, put, setting}
-use Rattle.silt_event.specs.Events.{PlainReply, Step, plain}
-use Rattle.silt_event.specs.declared.event.Event.{Event}
-use Rattle.silt_event.specs.declared.event.Event.TheVariants.{Put, Delete, Swap, Flush, Get}
-use Rattle.silt_event.specs.declared.reply.Reply.{Reply}
-use Rattle.silt_event.specs.declared.reply.Reply.TheVariants.{Accepted, Found, Absent, Differs, Refused}
-use Rattle.silt_frame.specs.declared.key.Key.{Key}
-use Rattle.silt_shards.specs.Stores.{SetStep}
 
 -- the whole map changes as its part does, and at this key alone
 pub record ChangesAlike (key : Key) (values to part after : Map) : Type 0 where

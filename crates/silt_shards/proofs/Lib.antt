@@ -10,3 +10,4 @@ pub mod SetMaps
 pub mod ShardLives
 pub mod WholeMaps
 pub mod Sums
+pub mod Common

@@ -1,11 +1,7 @@
 -- Lists of shards that are changed one after the other.
-use Rattle.std.proofs.Common.{◌≡◌, ◌<◌, ℕ, suc, ◌+◌, Some, List, [], ◌∷◌, ◌++◌, length, take, drop, set, get_or, sym, ◌∙◌, ap, subst, arith, rules}
-use Rattle.std.specs.Prelude.{All, slice_get}
-use Rattle.std.proofs.Math.Seq.{take-append_seam}
+use Rattle.silt_shards.proofs.Common.{◌≡◌, ◌<◌, ℕ, suc, ◌+◌, Some, List, [], ◌∷◌, ◌++◌, length, take, drop, set, get_or, sym, ◌∙◌, ap, subst, arith, rules, All, slice_get, take-append_seam}
+use Rattle.silt_shards.proofs.Common.{drop_more, drop-set-lt, get_or-set_other, get_or-set_same, length-set, take_more, take_more_set, none-some, slice_get_within, get_or_from_slice_get, cases_eq}
 use Rattle.std.proofs.lemmas.Grind.{drop_more_same}
-use Rattle.std.proofs.lemmas.List.{drop_more, drop-set-lt, get_or-set_other, get_or-set_same, length-set, take_more, take_more_set}
-use Rattle.std.proofs.lemmas.Option.{none-some, slice_get_within, get_or_from_slice_get}
-use Rattle.std.proofs.lemmas.Bool.{cases_eq}
 
 module _ {X : Type 0} where
   -- the item that was set

@@ -1,26 +1,16 @@
 -- Marks: what is written is read, what a crash leaves, and that stores do not see them.
-use Rattle.std.proofs.Common.{◌≡◌, ◌≤◌, ◌<◌, ◌⊎◌, inl, inr, ℕ, ◌+◌, ◌-◌, ◌^◌, Bool, true, ◌&&◌, nat_le, IsTrue, List, [], ◌∷◌, length, get_or, slice_range, slice_index, take, drop, ap, sym}
-use Rattle.std.proofs.Common.{◌∙◌, subst, arith}
-use Rattle.std.specs.Prelude.{if◌then◌else◌}
-use Rattle.std.proofs.lemmas.Bool.{cases_Bool, cases_eq, ne_eqb, and_parts}
-use Rattle.std.proofs.lemmas.Bool.Decides.{nat_tests}
-use Rattle.std.proofs.lemmas.List.{ext_get_or, length-drop, length-take, take_all}
+use Rattle.silt_shards.proofs.Common.{◌≡◌, ◌≤◌, ◌<◌, ◌⊎◌, inl, inr, ℕ, ◌+◌, ◌-◌, ◌^◌, Bool, true, ◌&&◌, nat_le, IsTrue, List, [], ◌∷◌, length, get_or, slice_range, slice_index, take, drop, ap}
+use Rattle.silt_shards.proofs.Common.{sym, ◌∙◌, subst, arith, if◌then◌else◌, cases_Bool, cases_eq, ne_eqb, and_parts, nat_tests, ext_get_or, length-drop, length-take, take_all, ChangesWithin}
+use Rattle.silt_shards.proofs.Common.{Content, LeavesOnly, Rests, Torn, Writes, size, header_shape, Shape, left_at_rest, rests_leaves, splice_byte, splice_slice, torn_wider, within_leaves, Map}
+use Rattle.silt_shards.proofs.Common.{StandsFor, Mark, Unmarked, Marked}
 use Rattle.std.proofs.lemmas.List.Edits.{get_or-between}
 use Rattle.byteorder.specs.Endian.{big_number, big_bytes}
 use Rattle.byteorder.specs.Numbers.{big_number-reads_back}
-use Rattle.silt_disk.specs.Disk.{ChangesWithin, Content, LeavesOnly, Rests, Torn, Writes, size}
-use Rattle.silt_disk.specs.Header.{header_shape}
-use Rattle.silt_disk.specs.Layout.{Shape}
-use Rattle.silt_disk.proofs.Images.{left_at_rest, rests_leaves, splice_byte, splice_slice, torn_wider, within_leaves}
-use Rattle.silt_event.specs.Commands.{Map}
 use Rattle.silt_image.specs.Laws.{Agree}
-use Rattle.silt_image.specs.Meaning.{StandsFor}
 use Rattle.silt_image.proofs.Frame.{frame_law, meaning_law, torn_same}
 use Rattle.silt_manifest.specs.Current.{record_behind}
 use Rattle.silt_recovery.proofs.Formats.{slice_join}
 use Rattle.silt_shards.specs.Marks.{IsHalfMarked, IsShardMark, IsMarkClosed, IsMarkedOrNot, FileMarkLaw, is_shard, mark_bytes, mark_part, marking_in, marking_of}
-use Rattle.silt_shards.specs.declared.mark.Mark.{Mark}
-use Rattle.silt_shards.specs.declared.mark.Marking.TheVariants.{Unmarked, Marked}
 
 -- ---- a range apart from a change
 

@@ -1,26 +1,9 @@
 -- Disks that open as a set, one after the other.
-use Rattle.std.proofs.Common.{◌≡◌, ◌<◌, ◌≤◌, ℕ, ◌+◌, ◌&&◌, nat_le, true, IsTrue, Option, Some, None, List, [], ◌∷◌, ◌++◌, length, Result, Ok, Err, Vec, inl, inr, refl, ap, sym, ◌∙◌, arith}
-use Rattle.std.proofs.Common.{rules}
-use Rattle.std.specs.List.{AllZip}
+use Rattle.silt_shards.proofs.Common.{◌≡◌, ◌<◌, ◌≤◌, ℕ, ◌+◌, ◌&&◌, nat_le, true, IsTrue, Option, Some, None, List, [], ◌∷◌, ◌++◌, length, Result, Ok, Err, Vec, inl, inr, refl, ap, sym, ◌∙◌, arith}
+use Rattle.silt_shards.proofs.Common.{rules, AllZip, IfOk, IfSome, slice_get, and_parts, cases_eq, nat_tests, All-append, All-cons, All-nil, same_Some, slice_get_within, AllZip-long, Content}
+use Rattle.silt_shards.proofs.Common.{shape_of, Shape, Ghosts, CoreState, Opens, AreOfOneShape, AreShards, CausedAt, IsLike, IsRefusedSet, Says, IsShardCount, AreAlike, SetCause, Mark, Marked}
 use Rattle.std.specs.declared.alloc.Global.{Global}
-use Rattle.std.specs.Prelude.{IfOk, IfSome, slice_get}
-use Rattle.std.proofs.lemmas.Bool.{and_parts, cases_eq}
-use Rattle.std.proofs.lemmas.Bool.Decides.{nat_tests}
-use Rattle.std.proofs.lemmas.List.Elements.{All-append, All-cons, All-nil}
-use Rattle.std.proofs.lemmas.Option.{same_Some, slice_get_within}
-use Rattle.std.proofs.lemmas.Slice.Zip.{AllZip-long}
-use Rattle.silt_disk.specs.Disk.{Content}
-use Rattle.silt_disk.specs.Header.{shape_of}
-use Rattle.silt_disk.specs.Layout.{Shape}
-use Rattle.silt_disk.specs.declared.disk.Disk.{Ghosts}
 use Rattle.silt_recovery.specs.Opening.{LeavesNoOther}
-use Rattle.silt_store_set.specs.CoreState.{CoreState, Opens}
-use Rattle.silt_shards.specs.Opening.{AreOfOneShape, AreShards, CausedAt, IsLike, IsRefusedSet, Says}
-use Rattle.silt_shards.specs.Routing.{IsShardCount}
-use Rattle.silt_shards.specs.Sets.{AreAlike}
-use Rattle.silt_shards.specs.declared.fault.SetCause.{SetCause}
-use Rattle.silt_shards.specs.declared.mark.Mark.{Mark}
-use Rattle.silt_shards.specs.declared.mark.Marking.TheVariants.{Marked}
 
 -- a set has at least two shards, and at most 64
 pub count_least : (count : ℕ) → IsShardCount count → 2 ≤ count

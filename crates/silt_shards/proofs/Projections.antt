@@ -1,16 +1,8 @@
 -- What sets of shards do, shard by shard.
-use Rattle.std.proofs.Common.{◌≡◌, inl, inr, ℕ, zero, suc, ◌==◌, true, false, Some, List, [], ◌∷◌, ◌++◌, length, refl, sym, ◌∙◌, ap, arith, rules}
-use Rattle.std.specs.Prelude.{slice_get}
-use Rattle.std.proofs.lemmas.Bool.{cases_Bool, cases_eq, eq-eqb, ne_eqb}
-use Rattle.std.proofs.lemmas.List.{length-set}
-use Rattle.std.proofs.lemmas.Option.{same_Some}
-use Rattle.silt_event.specs.Events.{AnswersEach, PlainReply}
-use Rattle.silt_event.specs.declared.event.Event.{Event}
-use Rattle.silt_event.specs.declared.event.Event.TheVariants.{Put, Flush}
+use Rattle.silt_shards.proofs.Common.{◌≡◌, inl, inr, ℕ, zero, suc, ◌==◌, true, false, Some, List, [], ◌∷◌, ◌++◌, length, refl, sym, ◌∙◌, ap, arith, rules, slice_get, cases_Bool, cases_eq, eq-eqb}
+use Rattle.silt_shards.proofs.Common.{ne_eqb, length-set, same_Some, AnswersEach, PlainReply, Event, Put, Flush, is_routed, DoesAt, FlushesEach, SetDoes}
 use Rattle.silt_shards.proofs.Lists.{get_set_other, get_set_same}
-use Rattle.silt_shards.specs.Routing.{is_routed}
 use Rattle.silt_shards.specs.SetLaws.{IsPart, ProjectionLaw, ShardDoes}
-use Rattle.silt_shards.specs.Sets.{DoesAt, FlushesEach, SetDoes}
 
 module _ {A : Type 0} (answers : A → A → Event → PlainReply → Type 0) where
   -- ---- a flush of each shard

@@ -1,23 +1,9 @@
 -- The replies of a set of stores are those of one map.
-use Rattle.std.proofs.Common.{◌≡◌, inl, inr, ℕ, Bool, not, cond, IsTrue, Option, Some, List, [], ◌∷◌, length, set, refl, ap, sym, ◌∙◌, arith, rules}
+use Rattle.silt_shards.proofs.Common.{◌≡◌, inl, inr, ℕ, Bool, not, cond, IsTrue, Option, Some, List, [], ◌∷◌, length, set, refl, ap, sym, ◌∙◌, arith, rules, option_and_then, slice_get, cases_Bool}
+use Rattle.silt_shards.proofs.Common.{cases_eq, length-set, All-cons, All-rest, same_Some, slice_get_cases, slice_get_past, Ghosts, Map, PlainReply, Step, plain, Event, Put, Delete, Swap, Flush}
+use Rattle.silt_shards.proofs.Common.{Get, Reply, Key, CoreState, DoesPlain, map_of, does_step, shard_of, DoesAt, FlushesEach, SetDoes, acknowledges, joined, AreHonest, IsMapOf, SetMapLaw}
+use Rattle.silt_shards.proofs.Common.{SetStep, value_in}
 use Rattle.std.specs.FinMap.{get}
-use Rattle.std.specs.Prelude.{option_and_then, slice_get}
-use Rattle.std.proofs.lemmas.Bool.{cases_Bool, cases_eq}
-use Rattle.std.proofs.lemmas.List.{length-set}
-use Rattle.std.proofs.lemmas.List.Elements.{All-cons, All-rest}
-use Rattle.std.proofs.lemmas.Option.{same_Some, slice_get_cases, slice_get_past}
-use Rattle.silt_disk.specs.declared.disk.Disk.{Ghosts}
-use Rattle.silt_event.specs.Commands.{Map}
-use Rattle.silt_event.specs.Events.{PlainReply, Step, plain}
-use Rattle.silt_event.specs.declared.event.Event.{Event}
-use Rattle.silt_event.specs.declared.event.Event.TheVariants.{Put, Delete, Swap, Flush, Get}
-use Rattle.silt_event.specs.declared.reply.Reply.{Reply}
-use Rattle.silt_frame.specs.declared.key.Key.{Key}
-use Rattle.silt_store_set.specs.CoreState.{CoreState, DoesPlain, map_of}
-use Rattle.silt_store_set.proofs.Runs.{does_step}
-use Rattle.silt_shards.specs.Routing.{shard_of}
-use Rattle.silt_shards.specs.Sets.{DoesAt, FlushesEach, SetDoes, acknowledges, joined}
-use Rattle.silt_shards.specs.Stores.{AreHonest, IsMapOf, SetMapLaw, SetStep, value_in}
 use Rattle.silt_shards.proofs.Joins.{first_refusal, joins}
 use Rattle.silt_shards.proofs.KeySteps.{KeyStep, delete_step, flush_same, flush_step, get_step, put_step, swap_step}
 use Rattle.silt_shards.proofs.Lists.{all_at, all_set, get_set_other, get_set_same}

@@ -1,25 +1,10 @@
 -- Runs and lives of a set of stores are runs and lives of each shard's store.
-use Rattle.std.proofs.Common.{◌≡◌, ℕ, zero, suc, ◌+◌, false, IsTrue, Some, List, [], ◌∷◌, length, map, refl, ap, ◌∙◌, subst, arith, rules}
-use Rattle.std.specs.List.{AllZip}
-use Rattle.std.specs.Prelude.{slice_get}
-use Rattle.std.proofs.lemmas.Option.{none-some, same_Some}
-use Rattle.std.proofs.lemmas.Slice.Zip.{AllZip-long}
-use Rattle.silt_disk.specs.Disk.{Restarts}
-use Rattle.silt_disk.specs.Layout.{Shape}
-use Rattle.silt_disk.specs.declared.disk.Disk.{Ghosts}
-use Rattle.silt_disk.proofs.Images.{left_at_rest, shown_left}
-use Rattle.silt_event.specs.Commands.{Map, map_after}
-use Rattle.silt_event.specs.Events.{AnswersEach, Legal, PlainReply, plain}
-use Rattle.silt_event.specs.declared.event.Event.{Event}
-use Rattle.silt_event.specs.declared.reply.Reply.{Reply}
-use Rattle.silt_image.specs.Meaning.{StandsFor}
+use Rattle.silt_shards.proofs.Common.{◌≡◌, ℕ, zero, suc, ◌+◌, false, IsTrue, Some, List, [], ◌∷◌, length, map, refl, ap, ◌∙◌, subst, arith, rules, AllZip, slice_get, none-some, same_Some}
+use Rattle.silt_shards.proofs.Common.{AllZip-long, Restarts, Shape, Ghosts, left_at_rest, shown_left, Map, map_after, AnswersEach, Legal, PlainReply, plain, Event, Reply, StandsFor, CoreState}
+use Rattle.silt_shards.proofs.Common.{DoesPlain, Opens, Runs, map_of, legal_runs, routed, SetLivesLaw, SetRuns, ShardLife, ShardRuns, ShardRunsLaw, ShardLives}
 use Rattle.silt_store_set.specs.CoreInvariant.{IsSafe}
-use Rattle.silt_store_set.specs.CoreState.{CoreState, DoesPlain, Opens, Runs, map_of}
 use Rattle.silt_store_set.specs.Living.{StartsFrom}
 use Rattle.silt_store_set.proofs.Keeps.{keeps_runs, nines}
-use Rattle.silt_store_set.proofs.Runs.{legal_runs}
-use Rattle.silt_shards.specs.Routing.{routed}
-use Rattle.silt_shards.specs.Stores.{SetLivesLaw, SetRuns, ShardLife, ShardRuns, ShardRunsLaw, ShardLives}
 use Rattle.silt_shards.proofs.Projections.{projected, set_length}
 
 -- the partner of an item

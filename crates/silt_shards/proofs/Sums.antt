@@ -1,9 +1,6 @@
 -- The facts of a set, one shard after the other.
-use Rattle.std.proofs.Common.{◌≡◌, ◌<◌, ◌≤◌, ◌+◌, ℕ, suc, List, ◌∷◌, length, drop, get_or, inl, Option, Some, None, refl, sym, ap, subst, ◌∙◌, arith}
+use Rattle.silt_shards.proofs.Common.{◌≡◌, ◌<◌, ◌≤◌, ◌+◌, ℕ, suc, List, ◌∷◌, length, drop, get_or, inl, Option, Some, None, refl, sym, ap, subst, ◌∙◌, arith, drop-cons, Facts, AddsFacts, plus}
 use Rattle.std.proofs.Math.ListN.{drop_of_length-le}
-use Rattle.std.proofs.Math.Seq.{drop-cons}
-use Rattle.silt_event.specs.declared.facts.Facts.{Facts}
-use Rattle.silt_shards.specs.SetFacts.{AddsFacts, plus}
 
 module _ {A : Type 0} (informs : A → Option Facts → Type 0) (shards : List A) where
   -- the shard with this number comes first of the rest

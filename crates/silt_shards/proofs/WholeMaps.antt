@@ -1,16 +1,9 @@
 -- Each list of maps of which every key asks one is a map.
-use Rattle.std.proofs.Common.{◌≡◌, ◌<◌, ℕ, zero, suc, ◌+◌, ◌%◌, ◌==◌, Bool, true, false, cond, Option, Some, None, List, [], ◌∷◌, ◌++◌, inl, inr, refl, ap, sym, ◌∙◌, arith}
-use Rattle.std.specs.Cmp.Lexicographic.{slice_cmp}
+use Rattle.silt_shards.proofs.Common.{◌≡◌, ◌<◌, ℕ, zero, suc, ◌+◌, ◌%◌, ◌==◌, Bool, true, false, cond, Option, Some, None, List, [], ◌∷◌, ◌++◌, inl, inr, refl, ap, sym, ◌∙◌, arith, slice_cmp}
+use Rattle.silt_shards.proofs.Common.{option_or, filter, option_and_then, slice_get, cases_Bool, eq-eqb, ne_eqb, nat_list_cmp_total, bytes_eq-Decides, Map, same_key}
 use Rattle.std.specs.FinMap.{entries, find, from_entries, get, get-entries, get-from_entries}
-use Rattle.std.specs.Option.{option_or}
 use Rattle.std.specs.Ordering.{nat_cmp, eq_by_cmp}
-use Rattle.std.specs.Prelude.{filter, option_and_then, slice_get}
-use Rattle.std.proofs.lemmas.Bool.{cases_Bool, eq-eqb, ne_eqb}
-use Rattle.std.proofs.lemmas.Cmp.{nat_list_cmp_total}
-use Rattle.std.proofs.lemmas.Slice.Eq.{bytes_eq-Decides}
 use Rattle.silt_disk.specs.Numbers.{number_at}
-use Rattle.silt_event.specs.Commands.{Map}
-use Rattle.silt_event.proofs.Rows.{same_key}
 
 -- entries of keys and values
 abbrev Entries : Type 0

@@ -1,5 +1,4 @@
-use Rattle.std.proofs.Common.{length}
-use Rattle.silt_store_set.specs.CoreState.{map_of}
+use Rattle.silt_shards.proofs.Common.{length, map_of}
 use Rattle.silt_shards.proofs.WholeMaps.{whole_get, whole_map}
 use Rattle.silt_shards.proofs.laws.has_map_law.Goals as goal
 

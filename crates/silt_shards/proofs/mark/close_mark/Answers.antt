@@ -1,5 +1,4 @@
-use Rattle.std.proofs.Common.{arith}
-use Rattle.silt_disk.proofs.Images.{weaker_leaves}
+use Rattle.silt_shards.proofs.Common.{arith, weaker_leaves}
 use Rattle.silt_shards.proofs.Marks.{closed_unmarked, commit_closed, stands_stays}
 use Rattle.silt_shards.proofs.mark.close_mark.Goals as goal
 

@@ -1,5 +1,4 @@
-use Rattle.std.proofs.Common.{arith}
-use Rattle.silt_disk.proofs.Wrote.{wrote_err, wrote_ok, wrote_then, wrote_wider}
+use Rattle.silt_shards.proofs.Common.{arith, wrote_err, wrote_ok, wrote_then, wrote_wider}
 use Rattle.silt_shards.proofs.Marks.{left_but_for_mark, left_marked_or_not, stands_stays}
 use Rattle.silt_shards.proofs.mark.write_mark.Goals as goal
 

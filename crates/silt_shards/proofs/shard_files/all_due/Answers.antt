@@ -1,7 +1,4 @@
-use Rattle.std.proofs.Common.{◌≡◌, ◌++◌, ◌∷◌, [], List, length, length-append, append_assoc, refl, sym, ◌∙◌, ap, arith}
-use Rattle.std.specs.Vec.Iter.{into_iter_items}
-use Rattle.std.proofs.lemmas.Slice.Zip.{AllZip-long}
-use Rattle.silt_shards.specs.Attempts.{IsAttemptOn}
+use Rattle.silt_shards.proofs.Common.{◌≡◌, ◌++◌, ◌∷◌, [], List, length, length-append, append_assoc, refl, sym, ◌∙◌, ap, arith, into_iter_items, AllZip-long, IsAttemptOn}
 use Rattle.silt_shards.specs.declared.attempt.Attempt.TheVariants.{Due}
 use Rattle.silt_shards.proofs.Attempts.{zip_whole}
 use Rattle.silt_shards.proofs.Openings.{zip_more}

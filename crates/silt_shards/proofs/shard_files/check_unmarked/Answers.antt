@@ -1,4 +1,4 @@
-use Rattle.std.proofs.Common.{◌∙◌, sym}
+use Rattle.silt_shards.proofs.Common.{◌∙◌, sym}
 use Rattle.silt_shards.proofs.shard_files.check_unmarked.Goals as goal
 
 pub returns-in-Ok-Marked-clause-cause : goal.returns-in-Ok-Marked-clause-cause

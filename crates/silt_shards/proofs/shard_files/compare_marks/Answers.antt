@@ -1,10 +1,4 @@
-use Rattle.std.proofs.Common.{◌≡◌, ℕ, List, Some, length, get_or, refl, arith}
-use Rattle.std.specs.Prelude.{slice_get}
-use Rattle.std.proofs.lemmas.Option.{slice_get_read}
-use Rattle.silt_disk.specs.declared.disk.Disk.{Ghosts}
-use Rattle.silt_shards.specs.Opening.{CausedAt, IsRefusedUnopened}
-use Rattle.silt_shards.specs.Routing.{IsShardCount}
-use Rattle.silt_shards.specs.declared.fault.SetCause.{SetCause}
+use Rattle.silt_shards.proofs.Common.{◌≡◌, ℕ, List, Some, length, get_or, refl, arith, slice_get, slice_get_read, Ghosts, CausedAt, IsRefusedUnopened, IsShardCount, SetCause}
 use Rattle.silt_shards.proofs.Openings.{count_least, no_other, says_all, says_more, says_none}
 use Rattle.silt_shards.proofs.shard_files.compare_marks.Goals as goal
 

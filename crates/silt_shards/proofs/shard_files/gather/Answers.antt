@@ -1,5 +1,4 @@
-use Rattle.std.proofs.Common.{◌≡◌, ◌≤◌, length, ap, arith}
-use Rattle.std.specs.Vec.Iter.{into_iter_items}
+use Rattle.silt_shards.proofs.Common.{◌≡◌, ◌≤◌, length, ap, arith, into_iter_items}
 use Rattle.silt_shards.proofs.Attempts.{gathers_all, gathers_more, gathers_next, gathers_none, gathers_refused}
 use Rattle.silt_shards.proofs.Openings.{count_most, shape_more, shape_none}
 use Rattle.silt_shards.proofs.shard_files.gather.Goals as goal

@@ -1,9 +1,4 @@
-use Rattle.std.proofs.Common.{◌≡◌, ◌≤◌, ◌+◌, List, length, vec_len}
-use Rattle.std.specs.List.{AllZip}
-use Rattle.std.specs.Prelude.{vec_capacity}
-use Rattle.std.specs.Vec.Iter.{into_iter_items}
-use Rattle.silt_shards.specs.Attempts.{IsAttemptOn}
-use Rattle.silt_shards.specs.Opening.{AreOfOneShape}
+use Rattle.silt_shards.proofs.Common.{◌≡◌, ◌≤◌, ◌+◌, List, length, vec_len, AllZip, vec_capacity, into_iter_items, IsAttemptOn, AreOfOneShape}
 use Rattle.silt_shards.proofs.Attempts.{Gathers}
 use Rattle.silt_shards.proofs.shard_files.gather.Given as goal
 

@@ -1,5 +1,4 @@
-use Rattle.std.proofs.Common.{◌≡◌, length, rules, ap, ◌∙◌, arith}
-use Rattle.silt_shards.specs.Attempts.{IsAttemptOn}
+use Rattle.silt_shards.proofs.Common.{◌≡◌, length, rules, ap, ◌∙◌, arith, IsAttemptOn}
 use Rattle.silt_shards.proofs.Attempts.{all_back, zip_changed}
 use Rattle.silt_shards.proofs.shard_files.make_all.Goals as goal
 

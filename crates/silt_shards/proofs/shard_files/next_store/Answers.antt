@@ -1,5 +1,4 @@
-use Rattle.std.proofs.Common.{◌≡◌, Ok, subst}
-use Rattle.silt_shards.specs.Attempts.{GivesFor}
+use Rattle.silt_shards.proofs.Common.{◌≡◌, Ok, subst, GivesFor}
 use Rattle.silt_shards.proofs.Openings.{other_shape}
 use Rattle.silt_shards.proofs.shard_files.next_store.Goals as goal
 

@@ -1,6 +1,4 @@
-use Rattle.std.proofs.Common.{◌≡◌, ℕ, vec_len, ◌∙◌, subst}
-use Rattle.std.specs.Prelude.{IfOk}
-use Rattle.silt_shards.specs.Opening.{AreShards}
+use Rattle.silt_shards.proofs.Common.{◌≡◌, ℕ, vec_len, ◌∙◌, subst, IfOk, AreShards}
 use Rattle.silt_shards.proofs.Attempts.{ok_anyway}
 use Rattle.silt_shards.proofs.Openings.{result_alike}
 use Rattle.silt_shards.proofs.shard_files.open_shards_beside.Goals as goal

@@ -1,7 +1,4 @@
-use Rattle.std.proofs.Common.{ℕ, [], ◌∷◌, ◌++◌, sym, ◌∙◌, ap}
-use Rattle.silt_event.specs.Events.{PlainReply}
-use Rattle.silt_event.specs.declared.reply.Reply.TheVariants.{Acknowledged}
-use Rattle.silt_shards.specs.Sets.{joined}
+use Rattle.silt_shards.proofs.Common.{ℕ, [], ◌∷◌, ◌++◌, sym, ◌∙◌, ap, PlainReply, Acknowledged, joined}
 use Rattle.silt_shards.proofs.Joins.{acknowledges_not, joined_adds, joined_refuses, joined_stays}
 use Rattle.silt_shards.proofs.store_set.join.Goals as goal
 

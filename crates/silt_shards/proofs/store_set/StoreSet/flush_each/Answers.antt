@@ -1,7 +1,4 @@
-use Rattle.std.proofs.Common.{◌≡◌, [], ◌∷◌, ◌++◌, take, get_or, sym, ◌∙◌, ap, subst, arith}
-use Rattle.std.proofs.lemmas.List.{length-set}
-use Rattle.silt_event.specs.declared.event.Event.TheVariants.{Flush}
-use Rattle.silt_shards.specs.Sets.{FlushesEach, IsSet, value_len_of}
+use Rattle.silt_shards.proofs.Common.{◌≡◌, [], ◌∷◌, ◌++◌, take, get_or, sym, ◌∙◌, ap, subst, arith, length-set, Flush, FlushesEach, IsSet, value_len_of}
 use Rattle.silt_shards.proofs.Alike.{len_stays, set_stays}
 use Rattle.silt_shards.proofs.Lists.{all_set, changed_next, rest_next, written_back}
 use Rattle.silt_shards.proofs.Projections.{flush_more}

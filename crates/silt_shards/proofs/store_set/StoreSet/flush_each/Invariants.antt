@@ -1,7 +1,4 @@
-use Rattle.std.proofs.Common.{◌≡◌, length, take, drop, List}
-use Rattle.std.specs.Prelude.{All}
-use Rattle.silt_event.specs.Events.{PlainReply}
-use Rattle.silt_shards.specs.Sets.{FlushesEach, joined, value_len_of}
+use Rattle.silt_shards.proofs.Common.{◌≡◌, length, take, drop, List, All, PlainReply, FlushesEach, joined, value_len_of}
 use Rattle.silt_shards.proofs.store_set.StoreSet.flush_each.Given as goal
 
 -- the shards so far were flushed, and the others are as they were

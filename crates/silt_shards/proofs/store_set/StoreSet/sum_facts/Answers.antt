@@ -1,6 +1,4 @@
-use Rattle.std.proofs.Common.{◌<◌, ◌≤◌, ◌+◌, drop, None, arith, length, subst}
-use Rattle.silt_event.specs.declared.facts.Facts.{Facts}
-use Rattle.silt_shards.specs.SetFacts.{AddsFacts, Informs}
+use Rattle.silt_shards.proofs.Common.{◌<◌, ◌≤◌, ◌+◌, drop, None, arith, length, subst, Facts, AddsFacts, Informs}
 use Rattle.silt_shards.proofs.Sums.{adds_end, adds_none, adds_one}
 use Rattle.silt_shards.proofs.store_set.StoreSet.sum_facts.Goals as goal
 

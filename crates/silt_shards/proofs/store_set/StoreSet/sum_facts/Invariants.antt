@@ -1,6 +1,4 @@
-use Rattle.std.proofs.Common.{drop, Option}
-use Rattle.silt_event.specs.declared.facts.Facts.{Facts}
-use Rattle.silt_shards.specs.SetFacts.{AddsFacts, Informs}
+use Rattle.silt_shards.proofs.Common.{drop, Option, Facts, AddsFacts, Informs}
 use Rattle.silt_shards.proofs.store_set.StoreSet.sum_facts.Given as goal
 
 -- what the other shards make of the sum so far is what all make of the first sum
