@@ -1,20 +1,11 @@
 -- The first entries of a map, one more after the other.
-use Rattle.std.proofs.Common.{◌≡◌, ◌⊎◌, ℕ, Bool, true, false, cond, List, [], ◌∷◌, ◌++◌, Option, Some, None, inl, inr, refl, ap, sym, ◌∙◌, subst, arith}
+use Rattle.silt_dump.proofs.Common.{◌≡◌, ◌⊎◌, ℕ, Bool, true, false, cond, List, [], ◌∷◌, ◌++◌, Option, Some, None, inl, inr, refl, ap, sym, ◌∙◌, subst, arith, get, keys_of, lookup, is_eq, nat_cmp}
+use Rattle.silt_dump.proofs.Common.{slice_cmp, Ordering, Less, Equal, Greater, Map, key_cmp, Key, AreFirstEntries, AreOfMap, AreOrderedTo, IsAbove, IsBelow, IsNextEntry, NoneAbove, value_at}
 use Rattle.std.specs.List.{AllByRecursion}
 use Rattle.std.specs.List.Sorted.{IsStrictlySortedBy}
-use Rattle.std.specs.BTreeMap as tree
-use Rattle.std.specs.FinMap.{get}
-use Rattle.std.specs.Map.{keys_of, lookup}
-use Rattle.std.specs.Ordering.{is_eq, nat_cmp}
-use Rattle.std.specs.Cmp.Lexicographic.{slice_cmp}
-use Rattle.std.specs.declared.cmp.Ordering.{Ordering}
-use Rattle.std.specs.declared.cmp.Ordering.TheVariants.{Less, Equal, Greater}
 use Rattle.std.proofs.lemmas.List.Elements.{All-from_recursion, recursion_from_All}
-use Rattle.silt_event.specs.Commands.{Map}
-use Rattle.silt_frame.specs.Rows.{key_cmp}
-use Rattle.silt_frame.specs.declared.key.Key.{Key}
-use Rattle.silt_dump.specs.Order.{AreFirstEntries, AreOfMap, AreOrderedTo, IsAbove, IsBelow, IsNextEntry, NoneAbove, value_at}
 use Rattle.silt_dump.proofs.Keys.{above_or, above_same, above_trans, below_trans, compared, equal_bytes, greater_above, not_itself}
+use Rattle.std.specs.BTreeMap as tree
 
 -- the entries with one more behind them
 abbrev pub with_entry : List (Key × List ℕ) → Key → List ℕ → List (Key × List ℕ)

@@ -1,16 +1,8 @@
 -- The order of keys.
-use Rattle.std.proofs.Common.{◌≡◌, ◌⊎◌, ℕ, List, true, Option, Some, None, inl, inr, refl, sym, subst, ap, ◌∙◌}
-use Rattle.std.specs.Ordering.{is_eq, nat_cmp, ordering_reverse}
-use Rattle.std.specs.Cmp.Lexicographic.{slice_cmp}
-use Rattle.std.specs.declared.cmp.Ordering.{Ordering}
-use Rattle.std.specs.declared.cmp.Ordering.TheVariants.{Less, Equal, Greater}
+use Rattle.silt_dump.proofs.Common.{◌≡◌, ◌⊎◌, ℕ, List, true, Option, Some, None, inl, inr, refl, sym, subst, ap, ◌∙◌, is_eq, nat_cmp, ordering_reverse, slice_cmp, Ordering, Less, Equal, Greater}
+use Rattle.silt_dump.proofs.Common.{is_eq-slice_cmp, key_cmp, Key, not_below_itself, IsAbove, IsBelow}
 use Rattle.std.proofs.lemmas.Cmp.{nat_list_cmp_total}
-use Rattle.std.proofs.lemmas.Map.Text.{is_eq-slice_cmp}
 use Rattle.std.proofs.lemmas.Slice.Eq.{bytes_eq-Decides}
-use Rattle.silt_frame.specs.Rows.{key_cmp}
-use Rattle.silt_frame.specs.declared.key.Key.{Key}
-use Rattle.silt_sorted_store.proofs.Rising.{not_below_itself}
-use Rattle.silt_dump.specs.Order.{IsAbove, IsBelow}
 
 -- no key is below itself
 pub not_itself : (a : Key) → IsBelow a a → ⊥

@@ -5,3 +5,4 @@ pub mod Passing
 pub mod Firsts
 pub mod Skipping
 pub mod Opened
+pub mod Common

@@ -1,39 +1,16 @@
 -- Rows noted at their spots.
-use Rattle.std.proofs.Common.{◌≡◌, ◌<◌, ◌≤◌, ℕ, ◌+◌, ◌*◌, ◌==◌, Bool, IsTrue, cond, if◌then◌else◌, true, false, List, [], ◌∷◌, ◌++◌, length, filter, map, take}
-use Rattle.std.proofs.Common.{drop, get_or, Some, None, refl, ap, sym, ◌∙◌, subst, arith, append_assoc}
-use Rattle.std.specs.Ordering.{is_eq}
+use Rattle.silt_dump.proofs.Common.{◌≡◌, ◌<◌, ◌≤◌, ℕ, ◌+◌, ◌*◌, ◌==◌, Bool, IsTrue, cond, if◌then◌else◌, true, false, List, [], ◌∷◌, ◌++◌, length, filter, map, take, drop, get_or, Some, None}
+use Rattle.silt_dump.proofs.Common.{refl, ap, sym, ◌∙◌, subst, arith, append_assoc, is_eq, BTreeMap, get, lookup, drop_all, drop_more, map-append, take_all, take_more, is_eq-slice_cmp, Content}
+use Rattle.silt_dump.proofs.Common.{Shape, Map, map_after, command_of, map_of_rows, value_given, changed_get, map_after-append, map_law, Key, Put, Delete, kind_byte, StoredRow, has_known_kind}
+use Rattle.silt_dump.proofs.Common.{key_cmp, row_of, slot_row, hash_rows, oldest_first, all_rows, all_count, row_of_all, entries_of, EngineState, ShowsStores, current_map, hashed_rows}
+use Rattle.silt_dump.proofs.Common.{hash_store_at, current_is, rows_in, AreSpotsOf, IsSpotOf, NotesRows, Overlays, log_at, logged_rows, row_of_log, spot_value, value_over, Spot}
 use Rattle.std.specs.Str.{bytes_eq}
-use Rattle.std.specs.BTreeMap.{BTreeMap}
-use Rattle.std.specs.BTreeMap as tree
-use Rattle.std.specs.FinMap.{get}
-use Rattle.std.specs.Map.{lookup}
-use Rattle.std.proofs.lemmas.List.{drop_all, drop_more, map-append, take_all, take_more}
 use Rattle.std.proofs.lemmas.List.Elements.{filter-append}
-use Rattle.std.proofs.lemmas.Map.Text.{is_eq-slice_cmp}
-use Rattle.silt_disk.specs.Disk.{Content}
-use Rattle.silt_disk.specs.Layout.{Shape}
-use Rattle.silt_event.specs.Commands.{Map, map_after}
-use Rattle.silt_event.specs.Rows.{command_of, map_of_rows, value_given}
-use Rattle.silt_event.proofs.Rows.{changed_get, map_after-append, map_law}
-use Rattle.silt_frame.specs.declared.key.Key.{Key}
 use Rattle.silt_frame.specs.declared.key.Kind.{Kind}
-use Rattle.silt_frame.specs.declared.key.Kind.TheVariants.{Put, Delete}
-use Rattle.silt_frame.specs.Frame.{kind_byte}
-use Rattle.silt_frame.specs.Rows.{StoredRow, has_known_kind, key_cmp, row_of}
-use Rattle.silt_hash_store.specs.Slots.{rows_before, slot_row, hash_rows}
+use Rattle.silt_hash_store.specs.Slots.{rows_before}
 use Rattle.silt_hash_store.proofs.Slotting.{all_before, before_more}
-use Rattle.silt_log.specs.Parts.{oldest_first}
-use Rattle.silt_log.specs.State.{all_rows}
-use Rattle.silt_log.proofs.Elsewhere.{all_count, row_of_all}
-use Rattle.silt_sorted_store.specs.State.{entries_of}
-use Rattle.silt_standing.specs.State.{EngineState}
-use Rattle.silt_standing.specs.Standing.{ShowsStores, current_map}
-use Rattle.silt_engine.specs.Entries.{hashed_rows}
-use Rattle.silt_engine.specs.Lookup.{hash_store_at}
-use Rattle.silt_engine.proofs.Lookups.{current_is, rows_in}
-use Rattle.silt_dump.specs.Spots.{AreSpotsOf, IsSpotOf, NotesRows, Overlays, log_at, logged_rows, row_of_log, spot_value, value_over}
-use Rattle.silt_dump.specs.declared.spot.Spot.{Spot}
 use Rattle.silt_dump.specs.declared.spot.Spot.TheVariants.{Deleted, Logged, Hashed}
+use Rattle.std.specs.BTreeMap as tree
 
 module _ (content : Content) (s : EngineState) where
   -- ---- one row

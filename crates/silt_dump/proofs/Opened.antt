@@ -1,19 +1,6 @@
 -- A stream that is opened.
-use Rattle.std.proofs.Common.{◌≡◌, IsTrue, Option, None, vec_len, ap, sym, subst, ◌∙◌, arith}
-use Rattle.std.specs.FinMap.{get}
-use Rattle.silt_disk.specs.Disk.{Content}
-use Rattle.silt_disk.specs.Layout.{row_len}
-use Rattle.silt_event.specs.Commands.{Map}
-use Rattle.silt_event.specs.Rows.{map_of_rows}
-use Rattle.silt_frame.specs.declared.key.Key.{Key}
-use Rattle.silt_standing.specs.Standing.{current_map}
-use Rattle.silt_recovery.specs.Opening.{Holds}
-use Rattle.silt_recovery.proofs.Shown.{held_map}
-use Rattle.silt_dump.specs.Order.{IsAbove}
-use Rattle.silt_dump.specs.Pieces.{IsPieceOf, key_at}
-use Rattle.silt_dump.specs.Spots.{AreSpotsOf, Overlays}
-use Rattle.silt_dump.specs.Stream.{Leaves, Streams, sorted_of, stores_of}
-use Rattle.silt_dump.specs.declared.stream.EntryStream.{EntryStream}
+use Rattle.silt_dump.proofs.Common.{◌≡◌, IsTrue, Option, None, vec_len, ap, sym, subst, ◌∙◌, arith, get, Content, row_len, Map, map_of_rows, Key, current_map, Holds, held_map, IsAbove, IsPieceOf}
+use Rattle.silt_dump.proofs.Common.{key_at, AreSpotsOf, Overlays, Leaves, Streams, sorted_of, stores_of, EntryStream}
 
 -- its stores are held, its spots give the map, it has read no entry, and has passed no key
 pub record IsOpened (content : Content) (stream : EntryStream) : Type 0 where

@@ -1,34 +1,15 @@
 -- A stream passes a key.
-use Rattle.std.proofs.Common.{◌≡◌, ◌≢◌, ◌<◌, ◌≤◌, ◌+◌, ◌-◌, ◌⊎◌, ◌↔◌, ℕ, Bool, true, false, cond, IsTrue, IsSome, IfSome, List, drop, nat_lt, Option, Some}
-use Rattle.std.proofs.Common.{None, inl, inr, vec_len, refl, ap, sym, ◌∙◌, subst, arith}
+use Rattle.silt_dump.proofs.Common.{◌≡◌, ◌≢◌, ◌<◌, ◌≤◌, ◌+◌, ◌-◌, ◌⊎◌, ◌↔◌, ℕ, Bool, true, false, cond, IsTrue, IsSome, IfSome, List, drop, nat_lt, Option, Some, None, inl, inr, vec_len, refl, ap}
+use Rattle.silt_dump.proofs.Common.{sym, ◌∙◌, subst, arith, is_eq, is_gt, nat_cmp, slice_cmp, BTreeMap, get, Ordering, Less, Equal, Greater, Content, entry_len, map_of_rows, key_cmp, Key}
+use Rattle.silt_dump.proofs.Common.{image_map, HasEntry, SortedState, entries_of, AreAllAbove, HasNext, IsAbove, IsBelow, IsTakenOut, NoneBetween, TakesLowest, CanGoOn, EndsEarly, HoldsPiece}
+use Rattle.silt_dump.proofs.Common.{IsAtPlace, bytes_at, key_at, AreSpotsOf, spot_value, value_over, GoesTo, Leaves, PassesTo, Streams, sorted_of, stores_of, Piece, Spot, EntryStream}
 use Rattle.std.specs.Option.{is_some}
-use Rattle.std.specs.Ordering.{is_eq, is_gt, nat_cmp}
-use Rattle.std.specs.Cmp.Lexicographic.{slice_cmp}
-use Rattle.std.specs.BTreeMap.{BTreeMap}
-use Rattle.std.specs.BTreeMap as tree
-use Rattle.std.specs.FinMap.{get}
-use Rattle.std.specs.declared.cmp.Ordering.{Ordering}
-use Rattle.std.specs.declared.cmp.Ordering.TheVariants.{Less, Equal, Greater}
 use Rattle.std.proofs.lemmas.Bool.{ltb-false, ltb-true}
-use Rattle.silt_disk.specs.Disk.{Content}
-use Rattle.silt_disk.specs.Layout.{entry_len}
-use Rattle.silt_event.specs.Rows.{map_of_rows}
-use Rattle.silt_frame.specs.Rows.{key_cmp}
-use Rattle.silt_frame.specs.declared.key.Key.{Key}
-use Rattle.silt_image.specs.Meaning.{image_map}
-use Rattle.silt_sorted_store.specs.OnlyRow.{HasEntry}
-use Rattle.silt_sorted_store.specs.State.{SortedState, entries_of}
 use Rattle.silt_recovery.specs.declared.fault.OpenError.{OpenError}
 use Rattle.silt_recovery.specs.declared.fault.OpenError.TheVariants.{NotFormatted, Damaged, Crowded, Device, NoMemory}
-use Rattle.silt_dump.specs.Order.{AreAllAbove, HasNext, IsAbove, IsBelow, IsTakenOut, NoneBetween, TakesLowest}
-use Rattle.silt_dump.specs.Pieces.{CanGoOn, EndsEarly, HoldsPiece, IsAtPlace, bytes_at, key_at}
-use Rattle.silt_dump.specs.Spots.{AreSpotsOf, spot_value, value_over}
-use Rattle.silt_dump.specs.Stream.{GoesTo, Leaves, PassesTo, Streams, sorted_of, stores_of}
-use Rattle.silt_dump.specs.declared.piece.Piece.{Piece}
-use Rattle.silt_dump.specs.declared.spot.Spot.{Spot}
-use Rattle.silt_dump.specs.declared.stream.EntryStream.{EntryStream}
 use Rattle.silt_dump.proofs.Keys.{above_same, above_trans, below_greater, below_trans, compared, not_both, not_itself}
 use Rattle.silt_dump.proofs.Sorted.{its_value, no_value, rises}
+use Rattle.std.specs.BTreeMap as tree
 
 -- a key with no spot, or with one
 no_spot : (found : Option Spot) → (IsSome found → ⊥) → found ≡ None

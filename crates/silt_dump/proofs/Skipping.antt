@@ -1,12 +1,6 @@
 -- Keys with no value that a stream passes.
-use Rattle.std.proofs.Common.{◌≡◌, ◌≤◌, ◌⊎◌, ℕ, true, false, IsTrue, List, Option, Some, None, inl, inr, refl, ap, sym, ◌∙◌, subst, arith}
-use Rattle.std.specs.FinMap.{get}
-use Rattle.silt_disk.specs.Disk.{Content}
-use Rattle.silt_frame.specs.declared.key.Key.{Key}
-use Rattle.silt_image.specs.Meaning.{image_map}
-use Rattle.silt_dump.specs.Order.{HasNext, IsAbove, IsBelow, IsNextEntry}
-use Rattle.silt_dump.specs.Stream.{PassesTo, Streams, steps_left, value_len_of}
-use Rattle.silt_dump.specs.declared.stream.EntryStream.{EntryStream}
+use Rattle.silt_dump.proofs.Common.{◌≡◌, ◌≤◌, ◌⊎◌, ℕ, true, false, IsTrue, List, Option, Some, None, inl, inr, refl, ap, sym, ◌∙◌, subst, arith, get, Content, Key, image_map, HasNext, IsAbove}
+use Rattle.silt_dump.proofs.Common.{IsBelow, IsNextEntry, PassesTo, Streams, steps_left, value_len_of, EntryStream}
 use Rattle.silt_dump.proofs.Keys.{above_or, above_trans, compared}
 
 -- a stream has passed keys with no value alone

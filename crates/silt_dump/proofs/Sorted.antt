@@ -1,27 +1,12 @@
 -- The entries of the sorted store.
-use Rattle.std.proofs.Common.{◌≡◌, ◌≢◌, ◌<◌, ℕ, IsTrue, List, [], length, drop, Some, None, option_and_then, refl, ap, sym, ◌∙◌, subst, arith}
-use Rattle.std.specs.FinMap.{get}
+use Rattle.silt_dump.proofs.Common.{◌≡◌, ◌≢◌, ◌<◌, ℕ, IsTrue, List, [], length, drop, Some, None, option_and_then, refl, ap, sym, ◌∙◌, subst, arith, get, get_or-map, Content, Shape, map_of_rows}
+use Rattle.silt_dump.proofs.Common.{value_given, newest_law, StoredRow, entry_row, HasEntry, entries_of, sorted_rows, entries_law, lower_below, one_place, shown_stores, EngineState, Holds}
+use Rattle.silt_dump.proofs.Common.{newest_last, newest_none, IsBelow, key_at}
 use Rattle.std.proofs.lemmas.Option.{get_or_from_slice_get, slice_get_within}
-use Rattle.std.proofs.lemmas.List.{get_or-map}
-use Rattle.silt_disk.specs.Disk.{Content}
-use Rattle.silt_disk.specs.Layout.{Shape}
-use Rattle.silt_event.specs.Rows.{map_of_rows, value_given}
-use Rattle.silt_event.proofs.Rows.{newest_law}
-use Rattle.silt_frame.specs.Rows.{StoredRow, entry_row}
 use Rattle.silt_image.specs.Stores.{stores_named}
 use Rattle.silt_image.proofs.Sound.{finds_nothing}
 use Rattle.silt_manifest.specs.declared.body.Body.{Body}
 use Rattle.silt_sorted_store.specs.Findings.{sorted_findings}
-use Rattle.silt_sorted_store.specs.OnlyRow.{HasEntry}
-use Rattle.silt_sorted_store.specs.State.{entries_of, sorted_rows}
-use Rattle.silt_sorted_store.proofs.Entries.{entries_law}
-use Rattle.silt_sorted_store.proofs.Rising.{lower_below, one_place}
-use Rattle.silt_standing.specs.Standing.{shown_stores}
-use Rattle.silt_standing.specs.State.{EngineState}
-use Rattle.silt_recovery.specs.Opening.{Holds}
-use Rattle.silt_engine.proofs.Lookups.{newest_last, newest_none}
-use Rattle.silt_dump.specs.Order.{IsBelow}
-use Rattle.silt_dump.specs.Pieces.{key_at}
 
 -- the entries of stores that are named
 named_entries : (shape : Shape) (body : Body) (image : List ℕ) → (stores_named shape body image).entries ≡ sorted_rows shape body.sorted body.sorted_count image

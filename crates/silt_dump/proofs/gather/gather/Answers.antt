@@ -1,7 +1,4 @@
-use Rattle.silt_engine.specs.Entries.{hashed_rows}
-use Rattle.silt_recovery.specs.Opening.{held_stores}
-use Rattle.silt_recovery.proofs.Shown.{held_shown}
-use Rattle.silt_dump.specs.Spots.{logged_rows}
+use Rattle.silt_dump.proofs.Common.{hashed_rows, held_stores, held_shown, logged_rows}
 use Rattle.silt_dump.proofs.Noting.{no_spots, notes_all, notes_more}
 use Rattle.silt_dump.proofs.gather.gather.Goals as goal
 

@@ -1,8 +1,4 @@
-use Rattle.std.proofs.Common.{◌<◌, ◌-◌, length, arith}
-use Rattle.std.proofs.lemmas.List.{get_or_default}
-use Rattle.silt_engine.specs.Lookup.{hash_store_at}
-use Rattle.silt_engine.proofs.Lookups.{known_in}
-use Rattle.silt_recovery.specs.Opening.{held_stores}
+use Rattle.silt_dump.proofs.Common.{◌<◌, ◌-◌, length, arith, get_or_default, hash_store_at, known_in, held_stores}
 use Rattle.silt_dump.proofs.Noting.{notes_from_start, notes_store, notes_to_end}
 use Rattle.silt_dump.proofs.gather.note_hashes.Goals as goal
 

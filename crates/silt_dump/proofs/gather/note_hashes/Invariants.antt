@@ -1,8 +1,4 @@
-use Rattle.std.proofs.Common.{drop, map}
-use Rattle.silt_log.specs.Parts.{oldest_first}
-use Rattle.silt_engine.proofs.Lookups.{known_in}
-use Rattle.silt_recovery.specs.Opening.{held_stores}
-use Rattle.silt_dump.specs.Spots.{NotesRows}
+use Rattle.silt_dump.proofs.Common.{drop, map, oldest_first, known_in, held_stores, NotesRows}
 use Rattle.silt_dump.proofs.gather.note_hashes.Given as goal
 
 -- the rows of the older stores are noted

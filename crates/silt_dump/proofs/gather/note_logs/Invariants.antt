@@ -1,8 +1,4 @@
-use Rattle.std.proofs.Common.{drop, map}
-use Rattle.silt_log.specs.Parts.{oldest_first}
-use Rattle.silt_engine.proofs.Lookups.{rows_in}
-use Rattle.silt_recovery.specs.Opening.{held_stores}
-use Rattle.silt_dump.specs.Spots.{NotesRows, logs_of}
+use Rattle.silt_dump.proofs.Common.{drop, map, oldest_first, rows_in, held_stores, NotesRows, logs_of}
 use Rattle.silt_dump.proofs.gather.note_logs.Given as goal
 
 -- the rows of the older logs are noted

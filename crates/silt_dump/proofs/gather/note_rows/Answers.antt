@@ -1,8 +1,5 @@
-use Rattle.std.proofs.Common.{ap, ◌∙◌, arith}
-use Rattle.silt_log.proofs.Elsewhere.{all_count}
+use Rattle.silt_dump.proofs.Common.{ap, ◌∙◌, arith, all_count, held_stores, log_at, row_of_log}
 use Rattle.silt_log_store.specs.State.{LogStoreState}
-use Rattle.silt_recovery.specs.Opening.{held_stores}
-use Rattle.silt_dump.specs.Spots.{log_at, row_of_log}
 use Rattle.silt_dump.proofs.Noting.{notes_logged, notes_whole}
 use Rattle.silt_dump.proofs.gather.note_rows.Goals as goal
 

@@ -1,7 +1,4 @@
-use Rattle.std.proofs.Common.{take}
-use Rattle.silt_log.specs.State.{all_rows}
-use Rattle.silt_recovery.specs.Opening.{held_stores}
-use Rattle.silt_dump.specs.Spots.{NotesRows, log_at}
+use Rattle.silt_dump.proofs.Common.{take, all_rows, held_stores, NotesRows, log_at}
 use Rattle.silt_dump.proofs.gather.note_rows.Given as goal
 
 -- the rows that were read are noted

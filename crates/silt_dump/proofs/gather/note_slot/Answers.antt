@@ -1,14 +1,6 @@
-use Rattle.std.proofs.Common.{◌≡◌, IsTrue, sym, subst, ◌∙◌, refl}
-use Rattle.std.proofs.lemmas.List.{get_or_read}
-use Rattle.silt_frame.specs.Rows.{StoredRow}
-use Rattle.silt_frame.specs.declared.key.Kind.TheVariants.{Put, Delete}
+use Rattle.silt_dump.proofs.Common.{◌≡◌, IsTrue, sym, subst, ◌∙◌, refl, get_or_read, StoredRow, Put, Delete, slot_row, HashState, hash_store_at, held_stores, IsSpotOf}
 use Rattle.silt_hash_store.specs.Lookup.{IsRowAt}
-use Rattle.silt_hash_store.specs.Slots.{slot_row}
-use Rattle.silt_hash_store.specs.State.{HashState}
 use Rattle.silt_log.specs.Rows.{IsRow}
-use Rattle.silt_engine.specs.Lookup.{hash_store_at}
-use Rattle.silt_recovery.specs.Opening.{held_stores}
-use Rattle.silt_dump.specs.Spots.{IsSpotOf}
 use Rattle.silt_dump.proofs.Noting.{gives_slot, notes_kept}
 use Rattle.silt_dump.proofs.gather.note_slot.Goals.{in-Put, in-Delete}
 use Rattle.silt_dump.proofs.gather.note_slot.Goals as goal

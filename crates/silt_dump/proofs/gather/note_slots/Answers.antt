@@ -1,8 +1,4 @@
-use Rattle.std.proofs.Common.{◌≡◌, ap, arith}
-use Rattle.silt_disk.specs.Layout.{Shape}
-use Rattle.silt_hash_store.specs.State.{HashState}
-use Rattle.silt_engine.specs.Lookup.{hash_store_at}
-use Rattle.silt_recovery.specs.Opening.{held_stores}
+use Rattle.silt_dump.proofs.Common.{◌≡◌, ap, arith, Shape, HashState, hash_store_at, held_stores}
 use Rattle.silt_dump.proofs.Noting.{notes_no_slot, notes_slot, notes_slots}
 use Rattle.silt_dump.proofs.gather.note_slots.Goals as goal
 

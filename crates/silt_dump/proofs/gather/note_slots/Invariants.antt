@@ -1,9 +1,4 @@
-use Rattle.std.proofs.Common.{filter}
-use Rattle.silt_frame.specs.Rows.{has_known_kind}
-use Rattle.silt_hash_store.specs.Slots.{rows_before}
-use Rattle.silt_engine.specs.Lookup.{hash_store_at}
-use Rattle.silt_recovery.specs.Opening.{held_stores}
-use Rattle.silt_dump.specs.Spots.{NotesRows}
+use Rattle.silt_dump.proofs.Common.{filter, has_known_kind, rows_before, hash_store_at, held_stores, NotesRows}
 use Rattle.silt_dump.proofs.gather.note_slots.Given as goal
 
 -- the slots that were read are noted

@@ -1,15 +1,7 @@
-use Rattle.std.proofs.Common.{◌≡◌, ◌⊎◌, List, ℕ, Option, true, false, IsSome, inl, inr, refl, ap, sym, ◌∙◌, subst}
-use Rattle.std.specs.Ordering.{is_gt, is_lt, nat_cmp}
-use Rattle.std.specs.BTreeMap.{BTreeMap, IsLowerBound}
-use Rattle.std.specs.BTreeMap as tree
-use Rattle.std.specs.Cmp.Lexicographic.{slice_cmp}
-use Rattle.std.specs.declared.cmp.Ordering.{Ordering}
-use Rattle.std.specs.declared.cmp.Ordering.TheVariants.{Less, Equal, Greater}
-use Rattle.silt_frame.specs.Rows.{key_cmp}
-use Rattle.silt_frame.specs.declared.key.Key.{Key}
-use Rattle.silt_dump.specs.Order.{AreAllAbove, IsBelow}
-use Rattle.silt_dump.specs.declared.spot.Spot.{Spot}
+use Rattle.silt_dump.proofs.Common.{◌≡◌, ◌⊎◌, List, ℕ, Option, true, false, IsSome, inl, inr, refl, ap, sym, ◌∙◌, subst, is_gt, is_lt, nat_cmp, BTreeMap, IsLowerBound, slice_cmp, Ordering, Less}
+use Rattle.silt_dump.proofs.Common.{Equal, Greater, key_cmp, Key, AreAllAbove, IsBelow, Spot}
 use Rattle.silt_dump.proofs.Keys.{below_greater, below_trans, compared}
+use Rattle.std.specs.BTreeMap as tree
 use Rattle.silt_dump.proofs.order.take_lowest.Goals as goal
 
 -- a key that compares as less is below

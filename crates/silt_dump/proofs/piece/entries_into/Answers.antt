@@ -1,7 +1,4 @@
-use Rattle.std.proofs.Common.{ℕ, ◌*◌, length, ap, ◌∙◌, arith}
-use Rattle.std.proofs.lemmas.List.{length-take-le}
-use Rattle.silt_disk.specs.Layout.{entry_len}
-use Rattle.silt_sorted_store.specs.State.{entries_of}
+use Rattle.silt_dump.proofs.Common.{ℕ, ◌*◌, length, ap, ◌∙◌, arith, length-take-le, entry_len, entries_of}
 use Rattle.silt_merge.proofs.Pieces.{front_fits, holds_front}
 use Rattle.silt_dump.proofs.piece.entries_into.Goals as goal
 

@@ -1,6 +1,4 @@
-use Rattle.std.proofs.Common.{ℕ, ◌≡◌, ◌<◌, ◌≤◌, ◌-◌, ◌*◌, length, ap, ◌∙◌, arith}
-use Rattle.silt_disk.specs.Layout.{entry_len}
-use Rattle.silt_sorted_store.proofs.Entries.{part_inside}
+use Rattle.silt_dump.proofs.Common.{ℕ, ◌≡◌, ◌<◌, ◌≤◌, ◌-◌, ◌*◌, length, ap, ◌∙◌, arith, entry_len, part_inside}
 use Rattle.silt_dump.proofs.piece.Piece.entry.Goals as goal
 
 pub slice_bounds-result-end : goal.slice_bounds-result-end

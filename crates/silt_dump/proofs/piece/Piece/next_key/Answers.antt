@@ -1,15 +1,5 @@
-use Rattle.std.proofs.Common.{ℕ, List, ◌≡◌, ◌<◌, ◌≤◌, ◌+◌, ◌-◌, true, false, ap, sym, subst, ◌∙◌, arith}
-use Rattle.silt_disk.specs.Disk.{Content}
-use Rattle.silt_disk.specs.Layout.{entry_len}
-use Rattle.silt_frame.specs.Frame.{entry_of}
-use Rattle.silt_frame.specs.Rows.{StoredRow, entry_row}
-use Rattle.silt_frame.specs.declared.key.Key.{Key}
-use Rattle.silt_sorted_store.specs.OnlyRow.{HasEntry}
-use Rattle.silt_sorted_store.specs.State.{SortedState, entries_of}
-use Rattle.silt_sorted_store.proofs.Entries.{key_of_row}
-use Rattle.silt_dump.specs.Order.{IsAbove}
-use Rattle.silt_dump.specs.Pieces.{HoldsPiece, bytes_at, key_at}
-use Rattle.silt_dump.specs.declared.piece.Piece.{Piece}
+use Rattle.silt_dump.proofs.Common.{ℕ, List, ◌≡◌, ◌<◌, ◌≤◌, ◌+◌, ◌-◌, true, false, ap, sym, subst, ◌∙◌, arith, Content, entry_len, entry_of, StoredRow, entry_row, Key, HasEntry, SortedState}
+use Rattle.silt_dump.proofs.Common.{entries_of, key_of_row, IsAbove, HoldsPiece, bytes_at, key_at, Piece}
 use Rattle.silt_dump.proofs.piece.Piece.next_key.Goals as goal
 
 -- the key that was read at a place that a piece has

@@ -1,8 +1,4 @@
-use Rattle.std.proofs.Common.{Bool, Option, Some, length, ap, sym, subst, ◌∙◌}
-use Rattle.silt_frame.specs.declared.key.Key.{Key}
-use Rattle.silt_image.specs.Meaning.{image_map}
-use Rattle.silt_dump.specs.Order.{HasNext}
-use Rattle.silt_dump.specs.Stream.{PassesNext}
+use Rattle.silt_dump.proofs.Common.{Bool, Option, Some, length, ap, sym, subst, ◌∙◌, Key, image_map, HasNext, PassesNext}
 use Rattle.silt_dump.proofs.Skipping.{HasSkipped, next_entry, no_entry, skips_more, skips_none, skips_to}
 use Rattle.silt_dump.proofs.stream.EntryStream.next.Goals as goal
 

@@ -1,6 +1,5 @@
-use Rattle.std.proofs.Common.{length}
+use Rattle.silt_dump.proofs.Common.{length, steps_left}
 use Rattle.silt_dump.proofs.Skipping.{HasSkipped}
-use Rattle.silt_dump.specs.Stream.{steps_left}
 use Rattle.silt_dump.proofs.stream.EntryStream.next.Given as goal
 
 -- the keys that were passed so far have no value

@@ -1,6 +1,4 @@
-use Rattle.silt_recovery.specs.Opening.{held_stores}
-use Rattle.silt_recovery.proofs.Shown.{held_good}
-use Rattle.std.proofs.Common.{refl}
+use Rattle.silt_dump.proofs.Common.{held_stores, held_good, refl}
 use Rattle.silt_dump.proofs.Opened.{streams_opened}
 use Rattle.silt_dump.proofs.stream.EntryStream.open.Goals as goal
 

@@ -1,13 +1,5 @@
-use Rattle.std.proofs.Common.{IsTrue, ◌+◌, Option, Some, None, Ok, ap, subst, ◌∙◌}
-use Rattle.std.specs.BTreeMap.{BTreeMap}
-use Rattle.silt_frame.specs.declared.key.Key.{Key}
-use Rattle.silt_disk.specs.Disk.{GaveAny}
+use Rattle.silt_dump.proofs.Common.{IsTrue, ◌+◌, Option, Some, None, Ok, ap, subst, ◌∙◌, BTreeMap, Key, GaveAny, CanGoOn, GoesTo, Piece, Spot, EntryStream}
 use Rattle.silt_engine.proofs.Exits.{on_error}
-use Rattle.silt_dump.specs.Pieces.{CanGoOn}
-use Rattle.silt_dump.specs.Stream.{GoesTo}
-use Rattle.silt_dump.specs.declared.piece.Piece.{Piece}
-use Rattle.silt_dump.specs.declared.spot.Spot.{Spot}
-use Rattle.silt_dump.specs.declared.stream.EntryStream.{EntryStream}
 use Rattle.silt_dump.proofs.Passing.{IsEntry, can_go_on, ends_early, entry_next, entry_passes, is_entry, none_next, none_taken, row_next, row_passes}
 use Rattle.silt_dump.proofs.stream.EntryStream.pass.Goals as goal
 

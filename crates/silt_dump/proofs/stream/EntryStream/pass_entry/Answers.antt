@@ -1,11 +1,6 @@
-use Rattle.std.proofs.Common.{ℕ, List, ◌≡◌, ◌<◌, ◌≤◌, ◌+◌, ◌-◌, ◌*◌, drop, length, take, ap, sym, ◌∙◌, arith, length-drop}
-use Rattle.std.proofs.lemmas.List.{take_all}
+use Rattle.silt_dump.proofs.Common.{ℕ, List, ◌≡◌, ◌<◌, ◌≤◌, ◌+◌, ◌-◌, ◌*◌, drop, length, take, ap, sym, ◌∙◌, arith, length-drop, take_all, entry_len, SortedState, part_inside, IsAtPlace, bytes_at}
+use Rattle.silt_dump.proofs.Common.{Piece}
 use Rattle.std.proofs.lemmas.List.Edits.{length-between}
-use Rattle.silt_disk.specs.Layout.{entry_len}
-use Rattle.silt_sorted_store.specs.State.{SortedState}
-use Rattle.silt_sorted_store.proofs.Entries.{part_inside}
-use Rattle.silt_dump.specs.Pieces.{IsAtPlace, bytes_at}
-use Rattle.silt_dump.specs.declared.piece.Piece.{Piece}
 use Rattle.silt_dump.proofs.stream.EntryStream.pass_entry.Goals as goal
 
 -- the bytes of an entry that a piece has are as long as an entry
