@@ -1,23 +1,11 @@
 -- Background work of both kinds, in any order.
-use Rattle.std.proofs.lemmas.Bool.{and_parts}
+use Rattle.silt_progress.proofs.Common.{and_parts, unwrap_or, list_all, length-take-le, Shape, Ghosts, Body, Event, Convert, Merge, Idle, Waiting, Moved, Finished, Reply, Progress, is_work}
+use Rattle.silt_progress.proofs.Common.{progress_due, BackgroundLaw}
 use Rattle.std.proofs.Common.{rules, ◌≡◌, ◌≤◌, ℕ, zero, suc, ◌+◌, ◌-◌, ◌*◌, true, false, IsTrue, List, [], ◌∷◌, length, Option, Some, None, IfSome, refl, ap, sym, ◌∙◌, subst, arith}
 use Rattle.std.proofs.Math.Nat.{add-mul, mul-le-mul_right}
-use Rattle.std.specs.Prelude.{unwrap_or}
-use Rattle.std.specs.List.{list_all}
-use Rattle.std.proofs.lemmas.List.{length-take-le}
-use Rattle.silt_disk.specs.Layout.{Shape}
-use Rattle.silt_disk.specs.declared.disk.Disk.{Ghosts}
-use Rattle.silt_manifest.specs.declared.body.Body.{Body}
-use Rattle.silt_event.specs.declared.event.Event.{Event}
-use Rattle.silt_event.specs.declared.event.Event.TheVariants.{Convert, Merge}
 use Rattle.silt_event.specs.declared.progress.Progress.{Progress as ProgressOf}
-use Rattle.silt_event.specs.declared.progress.Progress.TheVariants.{Idle, Waiting, Moved, Finished}
-use Rattle.silt_event.specs.declared.reply.Reply.{Reply}
-use Rattle.silt_event.specs.declared.reply.Reply.TheVariants.{Progress}
-use Rattle.silt_engine.specs.Conversion.{is_work, progress_due}
 use Rattle.silt_store_set.specs.CoreState.{ConvertGoesOn, ConvertWork, CoreState, Does, MergeWork, Runs, written_of}
 use Rattle.silt_progress.specs.Steps.{HasStepLeft, IsSized, TakesSome, convert_steps, is_background, is_step, logs_left, most_per_store, next_merge, stores_left}
-use Rattle.silt_progress.specs.Laws.{BackgroundLaw}
 use Rattle.silt_progress.proofs.Conversions.{due_first, finished, moved, step_is, works}
 use Rattle.silt_progress.proofs.Merges.{Moves, few_taken, first_work, merge_end, merge_length, moves}
 use Rattle.silt_progress.proofs.Sizes.{kept_merge}

@@ -1,24 +1,11 @@
 -- Conversions, step by step.
+use Rattle.silt_progress.proofs.Common.{and_from, and_parts, eqb-false, eqb-true, replicate, list_all, length-take-le, InLimits, Shape, Ghosts, Body, Event, Convert, Merge, Idle, Waiting, Moved}
+use Rattle.silt_progress.proofs.Common.{Finished, Reply, Progress, Refused, is_work, progress_due, slots_written, ConvertAllLaw, ConvertIdleLaw, ConvertRunLaw, ConvertStepLaw, FreesLaw}
 use Rattle.std.proofs.lemmas.Bool.Decides.{nat_tests}
-use Rattle.std.proofs.lemmas.Bool.{and_from, and_parts, eqb-false, eqb-true}
 use Rattle.std.proofs.Common.{rules, ◌≡◌, ◌≢◌, ◌≤◌, ◌<◌, ℕ, zero, suc, ◌+◌, ◌-◌, ◌*◌, true, false, not, IsTrue, List, [], ◌∷◌, length, Option, Some, None, IfSome, refl, sym, arith, suc-mul}
-use Rattle.std.specs.Prelude.{replicate}
-use Rattle.std.specs.List.{list_all}
-use Rattle.std.proofs.lemmas.List.{length-take-le}
-use Rattle.silt_disk.specs.Layout.{InLimits, Shape}
-use Rattle.silt_disk.specs.declared.disk.Disk.{Ghosts}
-use Rattle.silt_manifest.specs.declared.body.Body.{Body}
-use Rattle.silt_event.specs.declared.event.Event.{Event}
-use Rattle.silt_event.specs.declared.event.Event.TheVariants.{Convert, Merge}
 use Rattle.silt_event.specs.declared.progress.Progress.{Progress as ProgressOf}
-use Rattle.silt_event.specs.declared.progress.Progress.TheVariants.{Idle, Waiting, Moved, Finished}
-use Rattle.silt_event.specs.declared.reply.Reply.{Reply}
-use Rattle.silt_event.specs.declared.reply.Reply.TheVariants.{Progress, Refused}
-use Rattle.silt_engine.specs.Conversion.{is_work, progress_due}
 use Rattle.silt_store_set.specs.CoreState.{ConvertGoesOn, ConvertWork, CoreState, Does, HasFreeLog, MergeWork, Runs, convert_due, is_refused, written_of}
-use Rattle.silt_store_set.specs.Facts.{slots_written}
 use Rattle.silt_progress.specs.Steps.{HasFreeHashes, IsSized, TakesSome, conversions_left, convert_steps, is_step, is_background, next_conversion}
-use Rattle.silt_progress.specs.Laws.{ConvertAllLaw, ConvertIdleLaw, ConvertRunLaw, ConvertStepLaw, FreesLaw}
 
 -- a hash store has slots
 pub some_slots : (shape : Shape) → InLimits shape → 0 < 4 * shape.buckets

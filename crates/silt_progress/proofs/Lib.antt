@@ -3,3 +3,4 @@ pub mod Rooms
 pub mod Sizes
 pub mod Merges
 pub mod Backgrounds
+pub mod Common

@@ -1,32 +1,19 @@
 -- Merges, step by step.
-use Rattle.std.proofs.lemmas.Bool.{eqb-true}
-use Rattle.std.proofs.Common.{rules, ◌≡◌, ◌≤◌, ◌<◌, ℕ, zero, suc, ◌+◌, ◌-◌, ◌*◌, Bool, true, false, not, IsTrue, List, [], ◌∷◌, drop, filter, length, map, Option, Some, None, refl, ap, sym}
-use Rattle.std.proofs.Common.{subst, arith, suc-mul, length-append}
-use Rattle.std.specs.Prelude.{replicate, unwrap_or, ◌⊎◌}
-use Rattle.std.specs.List.{list_all}
-use Rattle.std.specs.Option.{option_map}
-use Rattle.std.proofs.lemmas.List.{length-map}
+use Rattle.silt_progress.proofs.Common.{eqb-true, replicate, unwrap_or, ◌⊎◌, list_all, option_map, length-map, Shape, Ghosts, Body, Merge, Idle, Moved, Finished, Reply, Progress, is_work}
+use Rattle.silt_progress.proofs.Common.{merge_progress, merge_sources, MergeEndLaw, MergeIdleLaw, MergeLengthLaw, MergeRunLaw, MergeStepLaw, MergeTurnLaw, WholeMergeLaw}
+use Rattle.std.proofs.Common.{rules, ◌≡◌, ◌≤◌, ◌<◌, ℕ, zero, suc, ◌+◌, ◌-◌, ◌*◌, Bool, true, false, not, IsTrue, List, [], ◌∷◌, drop, filter, length, map, Option, Some, None, refl, ap, sym, subst}
+use Rattle.std.proofs.Common.{arith, suc-mul, length-append}
 use Rattle.std.proofs.lemmas.List.FromFn.{length-map-range_with_len}
-use Rattle.silt_disk.specs.Layout.{Shape}
-use Rattle.silt_disk.specs.declared.disk.Disk.{Ghosts}
 use Rattle.silt_frame.specs.Rows.{StoredRow, has_known_kind}
-use Rattle.silt_manifest.specs.declared.body.Body.{Body}
 use Rattle.silt_log.specs.Parts.{known_rows, oldest_first}
 use Rattle.silt_hash_store.specs.Slots.{hash_part, hash_rows}
 use Rattle.silt_image.specs.Stores.{stores_named}
 use Rattle.silt_sorted_store.proofs.Entries.{entry_count}
 use Rattle.silt_merge.specs.Rows.{key_count}
 use Rattle.silt_merge.proofs.Newest.{key_count_law}
-use Rattle.silt_event.specs.declared.event.Event.TheVariants.{Merge}
 use Rattle.silt_event.specs.declared.progress.Progress.{Progress as ProgressOf}
-use Rattle.silt_event.specs.declared.progress.Progress.TheVariants.{Idle, Moved, Finished}
-use Rattle.silt_event.specs.declared.reply.Reply.{Reply}
-use Rattle.silt_event.specs.declared.reply.Reply.TheVariants.{Progress}
-use Rattle.silt_engine.specs.Conversion.{is_work}
-use Rattle.silt_engine.specs.Merge.{merge_progress, merge_sources}
 use Rattle.silt_store_set.specs.CoreState.{CoreState, Does, MergeGoesOn, MergeWork, Runs, is_refused, merge_due}
 use Rattle.silt_progress.specs.Steps.{HasStepLeft, TakesAll, next_merge, slots_to_gather, steps_per_merge}
-use Rattle.silt_progress.specs.Laws.{MergeEndLaw, MergeIdleLaw, MergeLengthLaw, MergeRunLaw, MergeStepLaw, MergeTurnLaw, WholeMergeLaw}
 use Rattle.silt_progress.proofs.Conversions.{first_step, no_length}
 
 -- a merge of so many hash stores that did not begin

@@ -1,17 +1,9 @@
 -- Room for rows.
-use Rattle.std.proofs.lemmas.Bool.{eqb-true}
+use Rattle.silt_progress.proofs.Common.{eqb-true, option_map, Ghosts, Event, Idle, Waiting, Moved, Finished, Refused, is_work, merge_progress, NoRoomLaw, RestLaw, RoomLaw, WaitLaw}
 use Rattle.std.proofs.Common.{◌≡◌, ◌≢◌, ℕ, Bool, true, false, not, ◌&&◌, ◌||◌, List, length, Option, refl, ap, sym, ◌∙◌, arith}
-use Rattle.std.specs.Option.{option_map}
-use Rattle.silt_disk.specs.declared.disk.Disk.{Ghosts}
-use Rattle.silt_event.specs.declared.event.Event.{Event}
 use Rattle.silt_event.specs.declared.progress.Progress.{Progress as ProgressOf}
-use Rattle.silt_event.specs.declared.progress.Progress.TheVariants.{Idle, Waiting, Moved, Finished}
 use Rattle.silt_event.specs.declared.refusal.Refusal.TheVariants.{NoRoom}
-use Rattle.silt_event.specs.declared.reply.Reply.TheVariants.{Refused}
-use Rattle.silt_engine.specs.Conversion.{is_work}
-use Rattle.silt_engine.specs.Merge.{merge_progress}
 use Rattle.silt_store_set.specs.CoreState.{AreAllInUse, CoreState, Does, SettingCause, convert_due, has_decided, merge_due}
-use Rattle.silt_progress.specs.Laws.{NoRoomLaw, RestLaw, RoomLaw, WaitLaw}
 use Rattle.silt_progress.proofs.Conversions.{due_waiting}
 use Rattle.silt_progress.proofs.Merges.{no_work}
 

@@ -1,27 +1,14 @@
 -- Which states are sized.
-use Rattle.std.proofs.lemmas.Bool.{cases_Bool}
-use Rattle.std.proofs.Common.{rules, ◌≡◌, ◌≤◌, ◌<◌, ℕ, zero, suc, ◌*◌, Bool, true, false, IsTrue, List, [], ◌∷◌, length, Ok, Option, Some, None, IfSome, inl, inr, refl, ap, sym, ◌∙◌, subst}
-use Rattle.std.proofs.Common.{arith}
-use Rattle.std.specs.Option.{option_map}
+use Rattle.silt_progress.proofs.Common.{cases_Bool, option_map, is_work, merge_progress, InLimits, Shape, Ghosts, Body, Event, Put, Delete, Swap, Flush, Get, Convert, Merge, Idle, Waiting, Moved}
+use Rattle.silt_progress.proofs.Common.{Finished, Reply, Accepted, Acknowledged, Found, Absent, Differs, Progress, Refused, slots_written, KeptLaw, OpenedLaw}
+use Rattle.std.proofs.Common.{rules, ◌≡◌, ◌≤◌, ◌<◌, ℕ, zero, suc, ◌*◌, Bool, true, false, IsTrue, List, [], ◌∷◌, length, Ok, Option, Some, None, IfSome, inl, inr, refl, ap, sym, ◌∙◌, subst, arith}
 use Rattle.silt_event.specs.Commands.{Command}
-use Rattle.silt_engine.specs.Conversion.{is_work}
-use Rattle.silt_engine.specs.Merge.{merge_progress}
-use Rattle.silt_disk.specs.Layout.{InLimits, Shape}
-use Rattle.silt_disk.specs.declared.disk.Disk.{Ghosts}
-use Rattle.silt_manifest.specs.declared.body.Body.{Body}
 use Rattle.silt_manifest.proofs.SoundBodies.{sound_parts}
 use Rattle.silt_image.specs.Stores.{image_stores, stores_named}
 use Rattle.silt_image.proofs.Named.{whole_law}
-use Rattle.silt_event.specs.declared.event.Event.{Event}
-use Rattle.silt_event.specs.declared.event.Event.TheVariants.{Put, Delete, Swap, Flush, Get, Convert, Merge}
-use Rattle.silt_event.specs.declared.progress.Progress.TheVariants.{Idle, Waiting, Moved, Finished}
-use Rattle.silt_event.specs.declared.reply.Reply.{Reply}
-use Rattle.silt_event.specs.declared.reply.Reply.TheVariants.{Accepted, Acknowledged, Found, Absent, Differs, Progress, Refused}
 use Rattle.silt_engine.specs.Laws.{IsGoodWith}
 use Rattle.silt_store_set.specs.CoreState.{CoreState, Does, MergeGoesOn, MergeWork, Runs, SettingCause, Takes, has_decided, is_convert, is_merge, is_refused}
-use Rattle.silt_store_set.specs.Facts.{slots_written}
 use Rattle.silt_progress.specs.Steps.{IsSized, TakesSome}
-use Rattle.silt_progress.specs.Laws.{KeptLaw, OpenedLaw}
 use Rattle.silt_progress.proofs.Conversions.{convert_step, takes_more}
 
 -- an image with stores has numbers within their limits, and a well-formed manifest record
