@@ -1,20 +1,12 @@
 -- A good image with the record, the digests and the logs of a moment is a backup of it.
-use Rattle.std.proofs.Common.{◌≡◌, ◌<◌, ℕ, zero, suc, IfOk, IsTrue, List, [], ◌∷◌, get_or, length, map, slice_get, slice_index_or, Some, Result, Ok, Err, ap, subst, sym, ◌∙◌, refl}
-use Rattle.sha1.specs.Sha1.{sha1}
+use Rattle.silt_backup.proofs.Common.{◌≡◌, ◌<◌, ℕ, zero, suc, IfOk, IsTrue, List, [], ◌∷◌, get_or, length, map, slice_get, slice_index_or, Some, Result, Ok, Err, ap, subst, sym, ◌∙◌, refl, sha1}
+use Rattle.silt_backup.proofs.Common.{AreLogs, HasDigests, IsBackup, IsOfMoment, Content, Shows, Shape, rows_bytes, HashState, IsHashStore, Part, Digests, SortedState, entries_of}
 use Rattle.std.proofs.lemmas.Option.{get_or_from_slice_get, none-some, same_Some, slice_get_within}
-use Rattle.silt_backup.specs.Backups.{AreLogs, HasDigests, IsBackup, IsOfMoment}
-use Rattle.silt_disk.specs.Disk.{Content, Shows}
-use Rattle.silt_disk.specs.Layout.{Shape}
-use Rattle.silt_frame.specs.Rows.{rows_bytes}
 use Rattle.silt_hash_store.specs.Slots.{hash_part, hash_rows}
-use Rattle.silt_hash_store.specs.State.{HashState, IsHashStore}
 use Rattle.silt_image.specs.Meaning.{AreDigestsOf, entries_digest, part_digest}
 use Rattle.silt_image.specs.Stores.{stores_named}
-use Rattle.silt_log.specs.Parts.{Part}
-use Rattle.silt_manifest.specs.declared.digests.Digests.{Digests}
 use Rattle.silt_recovery.proofs.Shown.{held_good}
 use Rattle.silt_recovery.specs.Opening.{Holds}
-use Rattle.silt_sorted_store.specs.State.{SortedState, entries_of}
 use Rattle.silt_standing.specs.Standing.{shown_stores}
 use Rattle.silt_standing.specs.State.{EngineState, IsHashOf, hash_region_of}
 use Rattle.silt_view.specs.declared.moment.Moment.{Moment}

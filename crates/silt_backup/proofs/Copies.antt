@@ -1,26 +1,17 @@
 -- When the rows of two images are the same.
-use Rattle.std.proofs.Common.{◌≡◌, ◌⊎◌, ℕ, zero, suc, ◌+◌, ◌*◌, ◌-◌, ◌≤◌, ◌<◌, Bool, true, false, List, [], ◌∷◌, ◌++◌, length, take, drop, map, slice_get}
-use Rattle.std.proofs.Common.{slice_range, flat_map, Some, inl, inr, refl, sym, ap, ◌∙◌, arith, bytes_eq, drop-drop, length-append, length-take, take-take}
-use Rattle.std.proofs.Common.{take-append-drop}
+use Rattle.silt_backup.proofs.Common.{◌≡◌, ◌⊎◌, ℕ, zero, suc, ◌+◌, ◌*◌, ◌-◌, ◌≤◌, ◌<◌, Bool, true, false, List, [], ◌∷◌, ◌++◌, length, take, drop, map, slice_get, slice_range, flat_map, Some, inl}
+use Rattle.silt_backup.proofs.Common.{inr, refl, sym, ap, ◌∙◌, arith, bytes_eq, drop-drop, length-append, length-take, take-take, take-append-drop, sha1, cases_Bool, not_from_Decides, drop-take}
+use Rattle.silt_backup.proofs.Common.{bytes_eq-Decides, take-append_seam, drop-append_seam, Collision, Shape, bodies_at, device_size, entry_len, commits_at, hash_at, hash_size, log_size, row_len}
+use Rattle.silt_backup.proofs.Common.{sorted_at, sorted_size, StoredRow, entries_bytes, entry_row, put_bytes, row_bytes, row_of, rows_bytes, Part}
 use Rattle.std.specs.List.{prefix_len, range_with_len}
-use Rattle.sha1.specs.Sha1.{sha1}
 use Rattle.std.proofs.Math.Nat.{mul-le-mul_right}
-use Rattle.std.proofs.lemmas.Bool.{cases_Bool}
-use Rattle.std.proofs.lemmas.Bool.Decides.{not_from_Decides}
-use Rattle.std.proofs.lemmas.List.{drop-take}
 use Rattle.std.proofs.lemmas.List.Edits.{length-between}
 use Rattle.std.proofs.lemmas.List.Sums.{prefix_len-le-length}
-use Rattle.std.proofs.lemmas.Slice.Eq.{bytes_eq-Decides}
-use Rattle.std.proofs.Math.Seq.{take-append_seam, drop-append_seam}
-use Rattle.silt_backup.specs.Backups.{Collision}
-use Rattle.silt_disk.specs.Layout.{Shape, bodies_at, device_size, entry_len, commits_at, hash_at, hash_size, log_size, row_len, sorted_at, sorted_size}
 use Rattle.silt_disk.proofs.Regions.{next_region, up_least}
 use Rattle.silt_frame.proofs.RowBytes.{put_bytes_of, row_bytes_of}
 use Rattle.silt_frame.specs.Commit.{is_open}
-use Rattle.silt_frame.specs.Rows.{StoredRow, entries_bytes, entry_row, put_bytes, row_bytes, row_of, rows_bytes}
 use Rattle.silt_hash_store.specs.Slots.{hash_part, hash_rows}
 use Rattle.silt_log.proofs.Bodies.{body_before, map_range_same}
-use Rattle.silt_log.specs.Parts.{Part}
 use Rattle.silt_log.specs.Rows.{body_row, commit_bytes, log_rows, open_count, row_at, rows_from}
 use Rattle.silt_sorted_store.specs.State.{sorted_rows}
 

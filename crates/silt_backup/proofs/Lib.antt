@@ -3,3 +3,4 @@ pub mod Copies
 pub mod Reading
 pub mod Records
 pub mod SameMaps
+pub mod Common

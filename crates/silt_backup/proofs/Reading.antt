@@ -1,6 +1,5 @@
 -- Bytes that are read into a buffer.
-use Rattle.std.proofs.Common.{◌≡◌, ◌++◌, ℕ, List, length, drop, take, arith}
-use Rattle.std.proofs.Math.Seq.{take-append_seam}
+use Rattle.silt_backup.proofs.Common.{◌≡◌, ◌++◌, ℕ, List, length, drop, take, arith, take-append_seam}
 
 -- a buffer that was written as a whole has the new bytes
 pub whole_buffer : (len : ℕ) (new old : List ℕ) → length new ≡ length old → len ≡ length old → take len (new ++ drop (length new) old) ≡ new

@@ -1,11 +1,7 @@
 -- Equal records of a manifest.
-use Rattle.std.proofs.Common.{◌≡◌, ◌&&◌, ◌++◌, ◌-◌, ◌==◌, ℕ, List, Bool, true, length, nat_eq, replicate, take, ap, sym, refl, ◌∙◌}
+use Rattle.silt_backup.proofs.Common.{◌≡◌, ◌&&◌, ◌++◌, ◌-◌, ◌==◌, ℕ, List, Bool, true, length, nat_eq, replicate, take, ap, sym, refl, ◌∙◌, take-append_seam, and_parts, eqb-true, Decides-eqb}
+use Rattle.silt_backup.proofs.Common.{slice_eq-Decides, Body}
 use Rattle.std.specs.Cmp.Lexicographic.{pointwise}
-use Rattle.std.proofs.Math.Seq.{take-append_seam}
-use Rattle.std.proofs.lemmas.Bool.{and_parts, eqb-true}
-use Rattle.std.proofs.lemmas.Bool.Decides.{Decides-eqb}
-use Rattle.std.proofs.lemmas.Slice.Eq.{slice_eq-Decides}
-use Rattle.silt_manifest.specs.declared.body.Body.{Body}
 
 -- the test of two lists of regions, which have zeros behind them in memory
 abbrev pub same_ids : List ℕ → List ℕ → Bool

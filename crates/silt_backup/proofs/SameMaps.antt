@@ -1,26 +1,19 @@
 -- A backup of a moment of a store has the map of that moment's base.
-use Rattle.std.proofs.Common.{◌≡◌, ◌⊎◌, ◌≤◌, ◌+◌, ◌%◌, ℕ, true, IsTrue, Contains, List, [], ◌∷◌, ◌++◌, length, map, slice_get, slice_range, Some, drop}
-use Rattle.std.proofs.Common.{option_map, inl, inr, refl, sym, ap, subst, ◌∙◌, arith}
-use Rattle.sha1.specs.Sha1.{sha1}
+use Rattle.silt_backup.proofs.Common.{◌≡◌, ◌⊎◌, ◌≤◌, ◌+◌, ◌%◌, ℕ, true, IsTrue, Contains, List, [], ◌∷◌, ◌++◌, length, map, slice_get, slice_range, Some, drop, option_map, inl, inr, refl, sym, ap}
+use Rattle.silt_backup.proofs.Common.{subst, ◌∙◌, arith, sha1, AreLogs, BackupLaw, Collision, Shape, device_size, commits_at, log_size, StoredRow, entries_bytes, rows_bytes, Part, known_rows}
+use Rattle.silt_backup.proofs.Common.{log_part, oldest_first, part_rows, Body, Digests, sorted_rows}
 use Rattle.std.proofs.lemmas.Option.{get_or_from_slice_get, slice_get-map, slice_get_within}
-use Rattle.silt_backup.specs.Backups.{AreLogs, BackupLaw, Collision}
 use Rattle.silt_backup.proofs.Copies.{entries_equal, hashes_equal, log_rows_equal}
-use Rattle.silt_disk.specs.Layout.{Shape, device_size, commits_at, log_size}
 use Rattle.silt_disk.specs.declared.disk.Disk.{Ghosts}
 use Rattle.silt_event.specs.Rows.{map_of_rows}
-use Rattle.silt_frame.specs.Rows.{StoredRow, entries_bytes, rows_bytes}
 use Rattle.silt_hash_store.specs.Slots.{hash_part, hash_rows}
 use Rattle.silt_image.proofs.Frame.{names_regions}
 use Rattle.silt_image.proofs.Named.{stores_law, whole_law}
 use Rattle.silt_image.proofs.Verdict.{rows_law}
 use Rattle.silt_image.specs.Meaning.{AreDigestsOf, image_map, rows_of}
 use Rattle.silt_image.specs.Stores.{Stores, stores_named}
-use Rattle.silt_log.specs.Parts.{Part, known_rows, log_part, oldest_first, part_rows}
 use Rattle.silt_log.specs.Rows.{log_rows}
 use Rattle.silt_manifest.specs.Body.{is_well_formed}
-use Rattle.silt_manifest.specs.declared.body.Body.{Body}
-use Rattle.silt_manifest.specs.declared.digests.Digests.{Digests}
-use Rattle.silt_sorted_store.specs.State.{sorted_rows}
 use Rattle.silt_store_set.specs.CoreState.{CoreState}
 use Rattle.silt_view.specs.Moments.{HoldLogs}
 

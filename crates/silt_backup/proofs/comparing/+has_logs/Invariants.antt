@@ -1,4 +1,4 @@
-use Rattle.std.proofs.Common.{length}
+use Rattle.silt_backup.proofs.Common.{length}
 use Rattle.silt_backup.proofs.comparing.+has_logs.Given as goal
 
 abbrev pub decreases-has_logs : goal.decreases-has_logs

@@ -1,8 +1,5 @@
-use Rattle.std.proofs.Common.{◌≡◌, ◌<◌, [], Some, length, slice_get, slice_index_or, ap, subst, sym, ◌∙◌, inl, inr, arith, rules}
-use Rattle.std.proofs.lemmas.Bool.{cases_order}
-use Rattle.std.proofs.lemmas.List.{get_or_read}
+use Rattle.silt_backup.proofs.Common.{◌≡◌, ◌<◌, [], Some, length, slice_get, slice_index_or, ap, subst, sym, ◌∙◌, inl, inr, arith, rules, cases_order, get_or_read, HashState}
 use Rattle.std.proofs.lemmas.Option.{get_or_from_slice_get, slice_get_within}
-use Rattle.silt_hash_store.specs.State.{HashState}
 use Rattle.silt_backup.proofs.comparing.has_digests.Goals as goal
 
 pub loop-place-preserved : goal.loop-place-preserved

@@ -1,5 +1,4 @@
-use Rattle.std.proofs.Common.{◌≡◌, ◌<◌, ℕ, [], Some, get_or, slice_get}
-use Rattle.silt_hash_store.specs.State.{HashState}
+use Rattle.silt_backup.proofs.Common.{◌≡◌, ◌<◌, ℕ, [], Some, get_or, slice_get, HashState}
 use Rattle.silt_backup.proofs.comparing.has_digests.Given as goal
 
 -- the first hash stores have their digests

@@ -1,7 +1,4 @@
-use Rattle.std.proofs.Common.{◌≡◌, ◌+◌, ℕ, List, length, slice_range, ap, sym, ◌∙◌}
-use Rattle.std.proofs.lemmas.Slice.Eq.{slice_eq-Decides}
-use Rattle.std.proofs.lemmas.Bool.Decides.{Decides-eqb}
-use Rattle.silt_disk.specs.Layout.{log_size}
+use Rattle.silt_backup.proofs.Common.{◌≡◌, ◌+◌, ℕ, List, length, slice_range, ap, sym, ◌∙◌, slice_eq-Decides, Decides-eqb, log_size}
 use Rattle.silt_backup.proofs.Reading.{whole_buffer}
 use Rattle.silt_backup.proofs.comparing.has_log.Goals as goal
 

@@ -1,4 +1,4 @@
-use Rattle.std.proofs.Common.{◌≡◌, sym, ◌∙◌, rules}
+use Rattle.silt_backup.proofs.Common.{◌≡◌, sym, ◌∙◌, rules}
 use Rattle.silt_backup.proofs.Records.{body_equal}
 use Rattle.silt_backup.proofs.comparing.has_record.Goals as goal
 

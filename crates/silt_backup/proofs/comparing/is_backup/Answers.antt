@@ -1,4 +1,4 @@
-use Rattle.std.proofs.Common.{rules}
+use Rattle.silt_backup.proofs.Common.{rules}
 use Rattle.silt_backup.proofs.Comparisons.{of_ok, shows_backup}
 use Rattle.silt_backup.proofs.comparing.is_backup.Goals as goal
 

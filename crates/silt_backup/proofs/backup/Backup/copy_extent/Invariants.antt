@@ -1,5 +1,4 @@
-use Rattle.std.proofs.Common.{◌≡◌, ◌-◌, ◌≤◌, length}
-use Rattle.silt_disk.specs.Disk.{size}
+use Rattle.silt_backup.proofs.Common.{◌≡◌, ◌-◌, ◌≤◌, length, size}
 use Rattle.silt_backup.proofs.backup.Backup.copy_extent.Given as goal
 
 -- the first bytes were copied, and the disk has its length

@@ -1,4 +1,4 @@
-use Rattle.std.proofs.Common.{rules}
+use Rattle.silt_backup.proofs.Common.{rules}
 use Rattle.silt_disk.proofs.Images.{rests_leaves}
 use Rattle.silt_backup.proofs.backup.Backup.finish.Goals as goal
 

@@ -1,5 +1,4 @@
-use Rattle.std.proofs.Common.{◌≡◌, ◌-◌, ◌≤◌, length}
-use Rattle.silt_disk.specs.Disk.{size}
+use Rattle.silt_backup.proofs.Common.{◌≡◌, ◌-◌, ◌≤◌, length, size}
 use Rattle.silt_backup.proofs.backup.Backup.put_all.Given as goal
 
 -- the first bytes were written, and the disk has its length
