@@ -1,27 +1,18 @@
 -- What a batch does to the writer's seat, and one batch more.
-use Rattle.silt_session.proofs.Common.{◌≡◌, inl, inr, ℕ, ◌≤◌, false, List, [], ◌∷◌, ◌++◌, append_assoc, drop, length, refl, sym, ◌∙◌, ap, arith, true, Option, Some, None, Result, Err}
-use Rattle.silt_session.proofs.Common.{AllZip, cases_Bool, take_all, Ghosts, Event, NoRoom, Reply, Refused, CoreState, change_reply, swap_reply, DeskState, Serves, SeatState, Caller}
-use Rattle.silt_session.proofs.Common.{PlaceState, Answer, Flushed, TaskState, requests_of, Performs, FindsNoRoom, IsBatch, PerformsLast, PerformsTask, RepliesTo, RepliesToAll, StepsThrough}
-use Rattle.silt_session.proofs.Common.{writer_at, Job, Request, Delete, Swap}
-use Rattle.std.proofs.Common.{drop_at, ◌||◌, drop_of_length-le}
-use Rattle.std.proofs.lemmas.Bool.{and_parts}
-use Rattle.silt_store_set.specs.CoreState.{Does, wants_convert, wants_merge}
-use Rattle.silt_session.specs.Requests.{compared}
-use Rattle.silt_session.specs.Origins.{Flushes, HasDone}
-use Rattle.silt_session.specs.Batches.{IsDueAt, KeepsLeft, MayMakeRoom, PerformsAll, PerformsJob, PerformsRequest, ServesBatch, ServesBatches, TriesAgain, TriesOnce, WriterState, done_in}
-use Rattle.silt_session.specs.Batches.{lacks_room, left_in, serving}
-use Rattle.silt_session.specs.declared.job.Request.TheVariants.{Put, Flush}
-use Rattle.silt_event.specs.declared.event.Event.TheVariants as event
-use Rattle.silt_event.specs.declared.refusal.Refusal.{Refusal}
-use Rattle.silt_inbox.specs.Books.{counted}
-use Rattle.silt_desk.specs.Notes.{plain_answer}
+use Rattle.silt_session.proofs.Common.{◌≡◌, inl, inr, ℕ, ◌≤◌, false, List, [], ◌∷◌, ◌++◌, append_assoc, drop, length, refl, sym, ◌∙◌, ap, arith, true, Option, Some, None, Result, Err, AllZip}
+use Rattle.silt_session.proofs.Common.{cases_Bool, take_all, Ghosts, Event, NoRoom, Reply, Refused, CoreState, change_reply, swap_reply, DeskState, Serves, SeatState, Caller, PlaceState, Answer}
+use Rattle.silt_session.proofs.Common.{Flushed, TaskState, requests_of, Performs, FindsNoRoom, IsBatch, PerformsLast, PerformsTask, RepliesTo, RepliesToAll, StepsThrough, writer_at, Job, Request}
+use Rattle.silt_session.proofs.Common.{drop_at, ◌||◌, drop_of_length-le, and_parts, Does, wants_convert, wants_merge, compared, Flushes, HasDone, IsDueAt, KeepsLeft, MayMakeRoom, PerformsAll}
+use Rattle.silt_session.proofs.Common.{PerformsJob, PerformsRequest, ServesBatch, ServesBatches, TriesAgain, TriesOnce, WriterState, done_in, lacks_room, left_in, serving, Refusal, counted}
+use Rattle.silt_session.proofs.Common.{plain_answer, CallsAt, answer_place}
+use Rattle.silt_session.specs.declared.job.Request.TheVariants.{Delete, Swap, Put, Flush}
 use Rattle.silt_desk.specs.declared.trace.Trace.{Ghosts as TraceOf}
 use Rattle.silt_desk.specs.declared.worker.Due.{Due}
-use Rattle.silt_session.specs.Tolds.{CallsAt, answer_place}
 use Rattle.silt_session.proofs.Callers.{again_caller, flush_caller, last_caller, none_caller}
 use Rattle.silt_session.proofs.Tolds.{done_place}
 use Rattle.silt_session.specs.declared.held.Batch.{Batch}
 use Rattle.silt_session.proofs.Lists.{steps_keep, steps_more}
+use Rattle.silt_event.specs.declared.event.Event.TheVariants as event
 
 -- ---- a batch is done from one seat
 

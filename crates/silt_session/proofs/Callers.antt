@@ -1,13 +1,9 @@
 -- Who calls from a seat stays, over any calls.
 use Rattle.silt_session.proofs.Common.{◌≡◌, inl, inr, ℕ, zero, suc, ◌∙◌, ap, Option, Some, None, Err, cases_Bool, Ghosts, Event, NoRoom, Reply, change_reply, swap_reply, DeskState, Serves}
-use Rattle.silt_session.proofs.Common.{SeatState, FindsNoRoom, PerformsLast, Performs, Answer, Flushed, Request, Delete, Swap}
-use Rattle.silt_store_set.specs.Replies.{flush_reply}
-use Rattle.silt_session.specs.Batches.{FindsNoRoomTimes, TriesAgain}
-use Rattle.silt_session.specs.Origins.{Flushes}
-use Rattle.silt_session.specs.declared.job.Request.TheVariants.{Put, Flush}
-use Rattle.silt_event.specs.declared.event.Event.TheVariants as event
-use Rattle.silt_desk.specs.History.{is_recorded}
+use Rattle.silt_session.proofs.Common.{SeatState, FindsNoRoom, PerformsLast, Performs, Answer, Flushed, Request, flush_reply, FindsNoRoomTimes, TriesAgain, Flushes, is_recorded}
+use Rattle.silt_session.specs.declared.job.Request.TheVariants.{Delete, Swap, Put, Flush}
 use Rattle.silt_desk.specs.declared.trace.Trace.{Ghosts as TraceOf}
+use Rattle.silt_event.specs.declared.event.Event.TheVariants as event
 
 module _ {D F T : Type 0} (facts : Ghosts D F) (trace : TraceOf T) where
   serves_caller : (old new : DeskState D T) (seat after : SeatState) (e : Event) (reply : Reply F)

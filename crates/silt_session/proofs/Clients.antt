@@ -1,8 +1,6 @@
 -- Replies to events that a client asks at once.
-use Rattle.silt_session.proofs.Common.{◌≡◌, ◌≢◌, ◌⊎◌, ℕ, suc, List, [], ◌∷◌, length, inl, inr, refl, arith, IfOk, Some, Result, Ok, Err, replicate, slice_get, true, AllZip, PlainReply}
-use Rattle.silt_session.proofs.Common.{Event, AnswersClient, reply_without}
-use Rattle.silt_event.specs.Events.{AnswersEach}
-use Rattle.silt_session.specs.Sessions.{ArePaired, ClientState, IsWithout}
+use Rattle.silt_session.proofs.Common.{◌≡◌, ◌≢◌, ◌⊎◌, ℕ, suc, List, [], ◌∷◌, length, inl, inr, refl, arith, IfOk, Some, Result, Ok, Err, replicate, slice_get, true, AllZip, PlainReply, Event}
+use Rattle.silt_session.proofs.Common.{AnswersClient, reply_without, AnswersEach, ArePaired, ClientState, IsWithout}
 use Rattle.silt_session.specs.declared.unanswered.Unanswered.{Unanswered}
 use Rattle.silt_session.specs.declared.unanswered.Unanswered.TheVariants.{Lost, NoMemory}
 

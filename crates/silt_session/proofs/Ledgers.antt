@@ -1,18 +1,11 @@
 -- What sessions are told, all together: each accepted command is a call of the log, made for one session, at a place of its own.
-use Rattle.silt_session.proofs.Common.{◌≡◌, ◌≢◌, ◌⊎◌, inl, inr, ℕ, ◌+◌, ◌<◌, ◌≤◌, List, [], ◌∷◌, drop, length, refl, sym, ◌∙◌, ap, arith, All, IfSome, MatchOption, Option, Some, None}
-use Rattle.silt_session.proofs.Common.{slice_get, cases_eq, IsPrefix, PlainReply, Event, Caller, ToldState, own_reply}
-use Rattle.std.proofs.Common.{◌-◌, ◌==◌, cond, drop-drop, sum_by}
-use Rattle.std.proofs.lemmas.Bool.{cond-false, cond-true, eq-eqb, ne_eqb}
-use Rattle.silt_session.specs.Tolds.{ExtendsCalls, HasCallAt, RisesThrough, TakesPlace}
-use Rattle.std.proofs.lemmas.List.{drop_at}
-use Rattle.std.proofs.lemmas.List.Elements.{All-head, All-tail}
+use Rattle.silt_session.proofs.Common.{◌≡◌, ◌≢◌, ◌⊎◌, inl, inr, ℕ, ◌+◌, ◌<◌, ◌≤◌, List, [], ◌∷◌, drop, length, refl, sym, ◌∙◌, ap, arith, All, IfSome, MatchOption, Option, Some, None, slice_get}
+use Rattle.silt_session.proofs.Common.{cases_eq, IsPrefix, PlainReply, Event, Caller, ToldState, own_reply, ◌-◌, ◌==◌, cond, drop-drop, sum_by, cond-false, cond-true, eq-eqb, ne_eqb, ExtendsCalls}
+use Rattle.silt_session.proofs.Common.{HasCallAt, RisesThrough, TakesPlace, drop_at, All-head, All-tail, get_or_from_slice_get, slice_get_within, IsMadeFor, accepted_by, call, count_accepted}
 use Rattle.std.proofs.lemmas.List.Sums.{sum_by-append, sum_by-cons, sum_by-drop_more, sum_by-le, sum_by-le-sum_by, sum_by-take-drop}
-use Rattle.std.proofs.lemmas.Option.{get_or_from_slice_get, slice_get_within}
-use Rattle.silt_event.specs.declared.event.Event.TheVariants as event
 use Rattle.silt_desk.specs.declared.call.RecordedCall.{RecordedCall}
-use Rattle.silt_desk.specs.CallLogs.{IsMadeFor}
-use Rattle.silt_desk.specs.History.{accepted_by, call, count_accepted}
 use Rattle.silt_session.specs.Ledgers.{AreApart, LedgerLaw, Read, Reader, ReadsOn, accepted_among, accepted_in, own_accepted}
+use Rattle.silt_event.specs.declared.event.Event.TheVariants as event
 
 -- ---- sums
 

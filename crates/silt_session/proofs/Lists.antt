@@ -1,7 +1,5 @@
 -- Lists whose items are changed one after the other, and lists that are related item by item.
-use Rattle.silt_session.proofs.Common.{◌≡◌, ◌<◌, ◌≤◌, ℕ, ◌+◌, List, [], ◌∷◌, ◌++◌, length, take, drop, get_or, refl, arith, AllZip, take_all, StepsThrough}
-use Rattle.std.proofs.Common.{set}
-use Rattle.silt_shards.proofs.Lists.{changed_next, written_back}
+use Rattle.silt_session.proofs.Common.{◌≡◌, ◌<◌, ◌≤◌, ℕ, ◌+◌, List, [], ◌∷◌, ◌++◌, length, take, drop, get_or, refl, arith, AllZip, take_all, StepsThrough, set, changed_next, written_back}
 
 -- ---- a list that is changed in place, item by item
 

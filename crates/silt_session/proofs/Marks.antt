@@ -1,8 +1,7 @@
 -- Which marks are set.
-use Rattle.silt_session.proofs.Common.{◌≡◌, ◌≢◌, ◌<◌, ◌⊎◌, ℕ, zero, suc, List, inl, inr, length, get_or, refl, sym, ◌∙◌, ap, arith, replicate, cases_eq}
-use Rattle.std.proofs.Common.{◌*◌, ◌/◌, ◌%◌, ◌^◌, slice_set, bit_or, w64, ◌↔◌}
+use Rattle.silt_session.proofs.Common.{◌≡◌, ◌≢◌, ◌<◌, ◌⊎◌, ℕ, zero, suc, List, inl, inr, length, get_or, refl, sym, ◌∙◌, ap, arith, replicate, cases_eq, ◌*◌, ◌/◌, ◌%◌, ◌^◌, slice_set, bit_or, w64}
+use Rattle.silt_session.proofs.Common.{◌↔◌, get_or-set_other, get_or-set_same}
 use Rattle.std.specs.Int.{bit_at}
-use Rattle.std.proofs.lemmas.List.{get_or-set_other, get_or-set_same}
 use Rattle.std.proofs.lemmas.Nat.Bits.{bit_at-zero, bit_at_set_other, bit_at_set_same}
 
 zero_at : (n i : ℕ) → get_or {A = ℕ} (replicate n 0) i 0 ≡ 0

@@ -1,39 +1,24 @@
 -- One event more of a session that asks several at once.
 use Rattle.silt_session.proofs.Common.{rules, ◌≡◌, ◌⊎◌, inl, inr, ℕ, ◌+◌, ◌≤◌, Bool, false, List, [], ◌∷◌, ◌++◌, append_assoc, length, map, refl, sym, ◌∙◌, ap, arith, suc, IfOk, true}
-use Rattle.silt_session.proofs.Common.{vec_capacity, vec_len, All, IfSome, MatchOption, Option, Some, None, Result, Ok, Err, AllZip, result_ok, deque_capacity, deque_len, cases_Bool}
-use Rattle.silt_session.proofs.Common.{same_Some, append-nil, AllZip-long, Ghosts, PlainReply, Event, Refused, CoreState, TaskState, asked_event, requests_of, IsToldBetween, IsToldMore}
-use Rattle.silt_session.proofs.Common.{PassesOn, ToldState, own_reply, Request}
-use Rattle.std.proofs.Common.{IsTrue, OnOk, if◌then◌else◌, not, ◌&&◌, nat_le}
-use Rattle.std.proofs.lemmas.Bool.{leb-true}
-use Rattle.std.proofs.lemmas.Option.{IfSome_then}
-use Rattle.std.proofs.lemmas.List.{length-append, length-map, map-append}
-use Rattle.silt_event.specs.Events.{Step, plain}
-use Rattle.silt_event.specs.declared.reply.Reply.TheVariants.{Accepted, Acknowledged, NotServed}
-use Rattle.silt_store_set.specs.CoreState.{Does}
-use Rattle.silt_session.specs.Requests.{IsNoRequest, changed_key}
-use Rattle.silt_session.specs.Tolds.{AreInOrder, AreToldBetween}
-use Rattle.std.proofs.lemmas.List.Elements.{All-append}
-use Rattle.silt_frame.specs.declared.key.Key.{Key}
+use Rattle.silt_session.proofs.Common.{vec_capacity, vec_len, All, IfSome, MatchOption, Option, Some, None, Result, Ok, Err, AllZip, result_ok, deque_capacity, deque_len, cases_Bool, same_Some}
+use Rattle.silt_session.proofs.Common.{append-nil, AllZip-long, Ghosts, PlainReply, Event, Refused, CoreState, TaskState, asked_event, requests_of, IsToldBetween, IsToldMore, PassesOn, ToldState}
+use Rattle.silt_session.proofs.Common.{own_reply, Request, IsTrue, OnOk, if◌then◌else◌, not, ◌&&◌, nat_le, leb-true, IfSome_then, length-append, length-map, map-append, Step, plain, Accepted}
+use Rattle.silt_session.proofs.Common.{Acknowledged, NotServed, Does, IsNoRequest, changed_key, AreInOrder, AreToldBetween, All-append, Key, get_reply, AnswersSoFar, AwaitsFlush, Fills, FillsAll}
+use Rattle.silt_session.proofs.Common.{FillsOne, GathersTask, HasRoom, IsFlushedBy, IsFree, IsNoGetOf, IsPlaceOf, IsSettled, IsShown, IsTaskOf, Looks, MarksToo, MaySettle, MovesPlaces}
+use Rattle.silt_session.proofs.Common.{NoneOvertakes, NothingWaits, SettlesAll, SettlesEach, SettlesShown, flush_if, given_after, reply_without_tasks, shown_of, waiting_events, IsAnswer, IsKept}
+use Rattle.silt_session.proofs.Common.{IsReplyOf, IsToldTo, Pipeline, Place, Shown}
 use Rattle.silt_event.specs.Commands.{Map}
-use Rattle.silt_event.specs.declared.event.Event.TheVariants as event
 use Rattle.silt_event.specs.declared.refusal.Refusal.TheVariants.{NoMemory}
 use Rattle.silt_engine.specs.Lookup.{changes_key}
-use Rattle.silt_store_set.specs.Replies.{get_reply}
 use Rattle.silt_store_set.specs.declared.store_core.Look.{Look}
 use Rattle.silt_desk.specs.declared.trace.Trace.{Ghosts as TraceOf}
 use Rattle.silt_session.specs.Marks.{IsMarked, mark_of}
-use Rattle.silt_session.specs.Pipelines.{AnswersSoFar, AwaitsFlush, Fills, FillsAll, FillsOne, GathersTask, HasRoom, IsFlushedBy, IsFree, IsNoGetOf, IsPlaceOf, IsSettled, IsShown, IsTaskOf}
-use Rattle.silt_session.specs.Pipelines.{Looks, MarksToo, MaySettle, MovesPlaces, NoneOvertakes, NothingWaits, SettlesAll, SettlesEach, SettlesShown, flush_if, given_after}
-use Rattle.silt_session.specs.Pipelines.{reply_without_tasks, shown_of, waiting_events}
-use Rattle.silt_session.specs.Sessions.{IsAnswer, IsKept, IsReplyOf, IsToldTo}
 use Rattle.silt_session.proofs.Tolds.{answers_more, more_both, more_passed, order_append, order_one, order_shown, order_cons, order_none, order_same, order_stays}
 use Rattle.silt_session.specs.declared.job.Request.TheVariants.{Put, Flush}
 use Rattle.silt_session.specs.declared.key_marks.KeyMarks.{KeyMarks}
-use Rattle.silt_session.specs.declared.pipeline.Pipeline.{Pipeline}
-use Rattle.silt_session.specs.declared.place.Place.{Place}
 use Rattle.silt_session.specs.declared.place.Place.TheVariants.{Shows, Waits}
-use Rattle.silt_session.specs.declared.place.Shown.{Shown}
 use Rattle.silt_session.proofs.Lists.{zip_append}
+use Rattle.silt_event.specs.declared.event.Event.TheVariants as event
 
 -- two lists with one item behind each are the same, and so are these items
 last_same : {X : Type 0} (xs ys : List X) (x y : X) → xs ++ x ∷ [] ≡ ys ++ y ∷ [] → (xs ≡ ys) × (x ≡ y)

@@ -1,20 +1,10 @@
 -- The replies of shards, woven into those of a set.
 use Rattle.silt_session.proofs.Common.{◌≡◌, ◌⊎◌, inl, inr, ℕ, zero, suc, ◌<◌, ◌≤◌, ◌+◌, Bool, false, List, [], ◌∷◌, ◌++◌, drop, get_or, length, map, take, refl, sym, ◌∙◌, ap, arith, IfOk}
 use Rattle.silt_session.proofs.Common.{IsSomeAnd, true, Option, Some, None, IfSome, Result, Ok, Err, slice_get, AllZip, result_ok, append-nil, length-set, take_all, cases_eq, AllZip-long}
-use Rattle.silt_session.proofs.Common.{same_Some, PlainReply, Event, EachShard, HasPart}
-use Rattle.std.proofs.Common.{◌==◌, set, OnOk}
-use Rattle.std.proofs.lemmas.List.{length-append, length-take-le, map-append, take_more}
-use Rattle.std.proofs.lemmas.Bool.{eq-eqb, ne_eqb}
-use Rattle.std.proofs.lemmas.Slice.Zip.{AllZip-left}
-use Rattle.std.proofs.lemmas.Option.{none-some, slice_get_read, slice_get_within}
-use Rattle.silt_session.specs.SetAnswers.{DealsTo, Draws, DrawsAll, DrawsEach, DrawsFrom, DrawsHeads, GivesAt, SetGives, route_of}
-use Rattle.std.specs.Option.{option_to_list}
-use Rattle.std.proofs.lemmas.List.Elements.{filter-append}
+use Rattle.silt_session.proofs.Common.{same_Some, PlainReply, Event, EachShard, HasPart, ◌==◌, set, OnOk, length-append, length-take-le, map-append, take_more, eq-eqb, ne_eqb, AllZip-left}
+use Rattle.silt_session.proofs.Common.{none-some, slice_get_read, slice_get_within, DealsTo, Draws, DrawsAll, DrawsEach, DrawsFrom, DrawsHeads, GivesAt, SetGives, route_of, option_to_list}
+use Rattle.silt_session.proofs.Common.{filter-append, is_routed, routed, joined, changed_next, get_set_other, get_set_same, Route}
 use Rattle.silt_event.specs.declared.event.Event.TheVariants.{Put, Flush, Convert, Merge}
-use Rattle.silt_shards.specs.Routing.{is_routed, routed}
-use Rattle.silt_shards.specs.Sets.{joined}
-use Rattle.silt_shards.proofs.Lists.{changed_next, get_set_other, get_set_same}
-use Rattle.silt_session.specs.declared.set.Route.{Route}
 use Rattle.silt_session.specs.declared.set.Route.TheVariants.{One, All as ToAll, Nowhere}
 use Rattle.silt_session.proofs.Clients.{zip_places}
 

@@ -1,35 +1,19 @@
 -- What a session is told, and more of it.
 use Rattle.silt_session.proofs.Common.{◌≡◌, ◌⊎◌, inl, inr, ℕ, zero, suc, ◌≤◌, ◌<◌, arith, Bool, false, List, [], ◌∷◌, ◌++◌, append_assoc, refl, sym, ◌∙◌, ap, rules, true, Option, Some, None}
-use Rattle.silt_session.proofs.Common.{Result, Ok, Err, slice_get, IfSome, MatchOption, AllZip, cases_Bool, same_Some, append-nil, IsPrefix, Ghosts, PlainReply, Event, CoreState, NoRoom}
-use Rattle.silt_session.proofs.Common.{Reply, Refused, change_reply, swap_reply, Caller, PlaceState, DeskState, Serves, SeatState, FindsNoRoom, PerformsLast, Performs, Answer, Flushed}
-use Rattle.silt_session.proofs.Common.{asked_event, IsToldBetween, IsToldMore, PassesOn, ToldState, own_reply, Request, Delete, Swap}
-use Rattle.std.proofs.Common.{subst, nat_le}
-use Rattle.std.proofs.lemmas.Bool.{leb-true}
-use Rattle.std.proofs.lemmas.Option.{IfSome_then}
-use Rattle.silt_event.specs.Events.{plain}
+use Rattle.silt_session.proofs.Common.{Result, Ok, Err, slice_get, IfSome, MatchOption, AllZip, cases_Bool, same_Some, append-nil, IsPrefix, Ghosts, PlainReply, Event, CoreState, NoRoom, Reply}
+use Rattle.silt_session.proofs.Common.{Refused, change_reply, swap_reply, Caller, PlaceState, DeskState, Serves, SeatState, FindsNoRoom, PerformsLast, Performs, Answer, Flushed, asked_event}
+use Rattle.silt_session.proofs.Common.{IsToldBetween, IsToldMore, PassesOn, ToldState, own_reply, Request, subst, nat_le, leb-true, IfSome_then, plain, Accepted, Acknowledged, Differs, Unsettled}
+use Rattle.silt_session.proofs.Common.{flush_reply, CallsSeen, IsMadeFor, LogsNone, PlacesCall, PlacesEvent, PlacesFlush, PerformsRequest, WriterState, HasDone, HasOrigin, WasFlushed, IsNoRequest}
+use Rattle.silt_session.proofs.Common.{acknowledged, changed, compared, reply_due, AreInOrder, AreToldBetween, AsksBehind, CallsAt, ExtendsCalls, HasCallAt, IsInLog, IsTold, RisesThrough}
+use Rattle.silt_session.proofs.Common.{TakesPlace, TellsAt, ToldOf, answer_place, reply_place, option_map, Key, Refusal, call, is_recorded, plain_answer, Placed, IsAnswer, IsKept, IsToldTo}
+use Rattle.silt_session.specs.declared.job.Request.TheVariants.{Delete, Swap, Put, Flush}
 use Rattle.silt_event.specs.declared.refusal.Refusal.TheVariants.{NotFormatted, NoMemory, HistoryFull}
-use Rattle.silt_event.specs.declared.reply.Reply.TheVariants.{Accepted, Acknowledged, Differs, Unsettled}
-use Rattle.silt_store_set.specs.Replies.{flush_reply}
-use Rattle.silt_desk.specs.CallLogs.{CallsSeen, IsMadeFor, LogsNone, PlacesCall, PlacesEvent, PlacesFlush}
-use Rattle.silt_session.specs.Batches.{PerformsRequest, WriterState}
-use Rattle.silt_session.specs.Origins.{HasDone, HasOrigin, WasFlushed}
-use Rattle.silt_session.specs.Requests.{IsNoRequest, acknowledged, changed, compared, reply_due}
-use Rattle.silt_session.specs.Tolds.{AreInOrder, AreToldBetween, AsksBehind, CallsAt, ExtendsCalls, HasCallAt, IsInLog, IsTold, RisesThrough, TakesPlace, TellsAt, ToldOf, answer_place}
-use Rattle.silt_session.specs.Tolds.{reply_place}
-use Rattle.silt_session.specs.declared.job.Request.TheVariants.{Put, Flush}
 use Rattle.std.specs.Bool.{then_some}
-use Rattle.std.specs.Option.{option_map}
 use Rattle.logbook.specs.Pages.{Book}
-use Rattle.silt_frame.specs.declared.key.Key.{Key}
-use Rattle.silt_event.specs.declared.event.Event.TheVariants as event
-use Rattle.silt_event.specs.declared.refusal.Refusal.{Refusal}
 use Rattle.silt_desk.specs.declared.call.RecordedCall.{RecordedCall}
 use Rattle.silt_desk.specs.declared.trace.Trace.{Ghosts as TraceOf}
-use Rattle.silt_desk.specs.History.{call, is_recorded}
-use Rattle.silt_desk.specs.Notes.{plain_answer}
-use Rattle.silt_session.specs.declared.task.Placed.{Placed}
-use Rattle.silt_session.specs.Sessions.{IsAnswer, IsKept, IsToldTo}
 use Rattle.silt_session.proofs.Callers.{flush_caller, none_caller, times_caller}
+use Rattle.silt_event.specs.declared.event.Event.TheVariants as event
 
 -- ---- all calls of a trace
 

@@ -1,8 +1,4 @@
-use Rattle.silt_session.proofs.Common.{◌≡◌, ◌∙◌, ℕ, List, ap, arith, length, refl, sym, Refused}
-use Rattle.std.proofs.Common.{subst}
-use Rattle.silt_session.specs.Pipelines.{Looks, shown_of}
-use Rattle.silt_session.specs.declared.place.Shown.{Shown}
-use Rattle.silt_shards.proofs.Lists.{written_back}
+use Rattle.silt_session.proofs.Common.{◌≡◌, ◌∙◌, ℕ, List, ap, arith, length, refl, sym, Refused, subst, Looks, shown_of, Shown, written_back}
 use Rattle.silt_session.proofs.Pipelines.{look_shows}
 use Rattle.silt_session.proofs.answers.look_up.Goals as goal
 

@@ -1,5 +1,4 @@
-use Rattle.silt_session.proofs.Common.{refl, sym, ◌∙◌, length-set, RepliesToAll, rest_next}
-use Rattle.silt_session.specs.Batches.{RepliesToJob}
+use Rattle.silt_session.proofs.Common.{refl, sym, ◌∙◌, length-set, RepliesToAll, rest_next, RepliesToJob}
 use Rattle.silt_session.proofs.Lists.{changed_all, zip_next}
 use Rattle.silt_session.proofs.held.reply_to_all.Goals as goal
 

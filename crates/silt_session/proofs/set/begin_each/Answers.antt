@@ -1,5 +1,4 @@
-use Rattle.silt_session.proofs.Common.{◌∙◌, Vec, ap, arith, drop}
-use Rattle.std.proofs.lemmas.List.{drop-drop}
+use Rattle.silt_session.proofs.Common.{◌∙◌, Vec, ap, arith, drop, drop-drop}
 use Rattle.silt_session.proofs.Sets.{asked_next, each_all}
 use Rattle.silt_session.proofs.set.begin_each.Goals as goal
 

@@ -1,7 +1,5 @@
-use Rattle.silt_session.proofs.Common.{◌≡◌, ◌<◌, ◌≤◌, ◌+◌, ◌++◌, ℕ, List, length, map, vec_capacity, vec_len, into_iter_items, HasPart}
-use Rattle.silt_session.specs.SetAnswers.{route_of}
+use Rattle.silt_session.proofs.Common.{◌≡◌, ◌<◌, ◌≤◌, ◌+◌, ◌++◌, ℕ, List, length, map, vec_capacity, vec_len, into_iter_items, HasPart, route_of, routed}
 use Rattle.silt_event.specs.declared.event.Event.{Event as EventOf}
-use Rattle.silt_shards.specs.Routing.{routed}
 use Rattle.silt_session.proofs.set.deal.Given as goal
 
 -- the events so far are dealt to their shards, and there is room for the routes of the others

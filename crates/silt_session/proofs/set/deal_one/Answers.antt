@@ -1,5 +1,4 @@
-use Rattle.silt_session.proofs.Common.{◌<◌, ◌∙◌, Vec, refl, sym, vec_len}
-use Rattle.std.proofs.lemmas.Option.{slice_get_read}
+use Rattle.silt_session.proofs.Common.{◌<◌, ◌∙◌, Vec, refl, sym, vec_len, slice_get_read}
 use Rattle.silt_session.proofs.Sets.{all_dealt, deals_one}
 use Rattle.silt_session.proofs.set.deal_one.Goals as goal
 

@@ -1,6 +1,4 @@
-use Rattle.silt_session.proofs.Common.{◌≡◌, List, length, take, drop, PlainReply}
-use Rattle.silt_shards.specs.Sets.{joined}
-use Rattle.silt_session.specs.SetAnswers.{DrawsHeads}
+use Rattle.silt_session.proofs.Common.{◌≡◌, List, length, take, drop, PlainReply, joined, DrawsHeads}
 use Rattle.silt_session.proofs.set.draw_heads.Given as goal
 
 -- the lists so far have lost their first replies, which are joined, and the others are as they were

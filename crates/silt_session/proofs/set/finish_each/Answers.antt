@@ -1,5 +1,4 @@
-use Rattle.silt_session.proofs.Common.{◌∙◌, ap, arith, drop, VecDeque}
-use Rattle.std.proofs.lemmas.List.{drop-drop}
+use Rattle.silt_session.proofs.Common.{◌∙◌, ap, arith, drop, VecDeque, drop-drop}
 use Rattle.silt_session.proofs.Sets.{each_all, told_next}
 use Rattle.silt_session.proofs.set.finish_each.Goals as goal
 

@@ -1,5 +1,4 @@
-use Rattle.silt_session.proofs.Common.{◌<◌, ◌≤◌, arith, length, IsSomeAnd, Option, Some}
-use Rattle.silt_event.specs.declared.facts.Facts.{Facts}
+use Rattle.silt_session.proofs.Common.{◌<◌, ◌≤◌, arith, length, IsSomeAnd, Option, Some, Facts}
 use Rattle.silt_shards.proofs.Sums.{adds_end, adds_one}
 use Rattle.silt_session.proofs.set.sum_facts.Goals as goal
 

@@ -1,5 +1,4 @@
-use Rattle.silt_session.proofs.Common.{drop, IsSomeAnd, Option}
-use Rattle.silt_event.specs.declared.facts.Facts.{Facts}
+use Rattle.silt_session.proofs.Common.{drop, IsSomeAnd, Option, Facts}
 use Rattle.silt_shards.specs.SetFacts.{AddsFacts}
 use Rattle.silt_session.proofs.set.sum_facts.Given as goal
 

@@ -1,6 +1,4 @@
-use Rattle.silt_session.proofs.Common.{◌≡◌, ◌≤◌, ◌+◌, ◌++◌, List, length, vec_capacity, vec_len, into_iter_items}
-use Rattle.silt_session.specs.SetAnswers.{DrawsAll}
-use Rattle.silt_session.specs.declared.set.Route.{Route}
+use Rattle.silt_session.proofs.Common.{◌≡◌, ◌≤◌, ◌+◌, ◌++◌, List, length, vec_capacity, vec_len, into_iter_items, DrawsAll, Route}
 use Rattle.silt_session.proofs.set.weave.Given as goal
 
 -- the events so far have their replies, and there is room for the others

@@ -1,5 +1,4 @@
-use Rattle.silt_session.proofs.Common.{◌≡◌, ◌≤◌, ◌++◌, List, vec_len, vec_capacity, IsBatch, writer_at, Job}
-use Rattle.silt_session.specs.Batches.{PerformsAll, left_in}
+use Rattle.silt_session.proofs.Common.{◌≡◌, ◌≤◌, ◌++◌, List, vec_len, vec_capacity, IsBatch, writer_at, Job, PerformsAll, left_in}
 use Rattle.silt_session.proofs.batch.Workplace.perform_all.Given as goal
 
 -- the jobs so far are done in order, and the others are left to do

@@ -1,5 +1,4 @@
-use Rattle.silt_session.proofs.Common.{rules, ap, get_or, refl, sym, ◌∙◌, Some, length-set, PerformsTask, StepsThrough, writer_at, rest_next}
-use Rattle.silt_session.specs.Batches.{serving}
+use Rattle.silt_session.proofs.Common.{rules, ap, get_or, refl, sym, ◌∙◌, Some, length-set, PerformsTask, StepsThrough, writer_at, rest_next, serving}
 use mir.Syntax.{of_param}
 use Rattle.silt_session.proofs.Batches.{keeps_none, keeps_both, task_done, task_performed, task_placed}
 use Rattle.silt_session.proofs.Lists.{changed_all, steps_next}

@@ -1,5 +1,4 @@
-use Rattle.silt_session.proofs.Common.{◌≡◌, length, take, drop, PerformsTask, StepsThrough, writer_at}
-use Rattle.silt_session.specs.Batches.{KeepsLeft}
+use Rattle.silt_session.proofs.Common.{◌≡◌, length, take, drop, PerformsTask, StepsThrough, writer_at, KeepsLeft}
 use Rattle.silt_session.proofs.batch.Workplace.perform_tasks.Given as goal
 
 -- the tasks so far are done in order, and the others are as they were

@@ -1,5 +1,4 @@
-use Rattle.silt_session.proofs.Common.{◌∙◌, ◌++◌, ◌∷◌, [], ap}
-use Rattle.silt_inbox.specs.Books.{counted}
+use Rattle.silt_session.proofs.Common.{◌∙◌, ◌++◌, ◌∷◌, [], ap, counted}
 use Rattle.silt_session.proofs.Batches.{batches_more}
 use Rattle.silt_session.proofs.batch.Workplace.serve_all.Goals as goal
 

@@ -1,5 +1,4 @@
-use Rattle.silt_session.proofs.Common.{◌≡◌, List, Job}
-use Rattle.silt_session.specs.Batches.{ServesBatches}
+use Rattle.silt_session.proofs.Common.{◌≡◌, List, Job, ServesBatches}
 use Rattle.silt_session.proofs.batch.Workplace.serve_all.Given as goal
 
 -- the seat keeps its number, and all jobs that were taken were done in batches

@@ -1,5 +1,4 @@
-use Rattle.silt_session.proofs.Common.{◌≤◌}
-use Rattle.silt_session.specs.Batches.{FindsNoRoomTimes}
+use Rattle.silt_session.proofs.Common.{◌≤◌, FindsNoRoomTimes}
 use Rattle.silt_session.proofs.batch.Workplace.try_again.Given as goal
 
 -- each try so far was refused for want of room

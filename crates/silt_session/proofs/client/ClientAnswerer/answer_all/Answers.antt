@@ -1,6 +1,4 @@
-use Rattle.silt_session.proofs.Common.{rules, ◌++◌, ◌∷◌, [], refl, sym, ◌∙◌, ap, append_assoc, append-nil, into_iter_items, AnswersClient}
-use Rattle.std.proofs.lemmas.List.Elements.{All-rest}
-use Rattle.silt_event.specs.Events.{HasValueOf}
+use Rattle.silt_session.proofs.Common.{rules, ◌++◌, ◌∷◌, [], refl, sym, ◌∙◌, ap, append_assoc, append-nil, into_iter_items, AnswersClient, All-rest, HasValueOf}
 use Rattle.silt_event.proofs.Answering.{each_more}
 use Rattle.silt_session.proofs.client.ClientAnswerer.answer_all.Goals as goal
 

@@ -1,5 +1,4 @@
-use Rattle.silt_session.proofs.Common.{◌≡◌, ◌≤◌, ◌+◌, ◌++◌, List, length, All, vec_capacity, vec_len, into_iter_items, PlainReply, AnswersClient}
-use Rattle.silt_event.specs.Events.{AnswersEach, HasValueOf}
+use Rattle.silt_session.proofs.Common.{◌≡◌, ◌≤◌, ◌+◌, ◌++◌, List, length, All, vec_capacity, vec_len, into_iter_items, PlainReply, AnswersClient, AnswersEach, HasValueOf}
 use Rattle.silt_event.specs.declared.event.Event.{Event as EventOf}
 use Rattle.silt_session.proofs.client.ClientAnswerer.answer_all.Given as goal
 

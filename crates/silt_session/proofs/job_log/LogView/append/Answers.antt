@@ -1,5 +1,4 @@
-use Rattle.silt_session.proofs.Common.{sym, ◌∙◌, ap, requests_of}
-use Rattle.silt_desk.proofs.CallLogs.{adds_moves}
+use Rattle.silt_session.proofs.Common.{sym, ◌∙◌, ap, requests_of, adds_moves}
 use Rattle.silt_session.proofs.job_log.LogView.append.Goals as goal
 
 pub compare_exchange-found-requires : goal.compare_exchange-found-requires

@@ -1,5 +1,4 @@
-use Rattle.silt_session.proofs.Common.{◌≤◌, ap, arith, length, IsPrefix}
-use Rattle.silt_desk.proofs.CallLogs.{prefix_shorter}
+use Rattle.silt_session.proofs.Common.{◌≤◌, ap, arith, length, IsPrefix, prefix_shorter}
 use Rattle.silt_session.proofs.job_log.LogView.longer.Goals as goal
 
 pub returns-then-self-other-clause-this : goal.returns-then-self-other-clause-this

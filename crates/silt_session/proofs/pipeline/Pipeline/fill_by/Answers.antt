@@ -1,5 +1,4 @@
-use Rattle.silt_session.proofs.Common.{◌∙◌, ◌++◌, ap, sym, requests_of, IsToldMore}
-use Rattle.silt_session.specs.Pipelines.{flush_if}
+use Rattle.silt_session.proofs.Common.{◌∙◌, ◌++◌, ap, sym, requests_of, IsToldMore, flush_if}
 use Rattle.silt_session.proofs.Pipelines.{filled_settles, told_none}
 use Rattle.silt_session.proofs.pipeline.Pipeline.fill_by.Goals as goal
 

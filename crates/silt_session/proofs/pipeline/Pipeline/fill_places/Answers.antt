@@ -1,7 +1,6 @@
-use Rattle.silt_session.proofs.Common.{rules, ◌++◌, ◌∷◌, [], append_assoc, refl, sym, ◌∙◌, ap, append-nil}
+use Rattle.silt_session.proofs.Common.{rules, ◌++◌, ◌∷◌, [], append_assoc, refl, sym, ◌∙◌, ap, append-nil, Pipeline}
 use Rattle.silt_session.proofs.Pipelines.{fills_more}
 use Rattle.silt_session.proofs.Tolds.{passes_both, passes_none}
-use Rattle.silt_session.specs.declared.pipeline.Pipeline.{Pipeline}
 use Rattle.silt_session.proofs.pipeline.Pipeline.fill_places.Goals as goal
 
 pub loop-place-init : goal.loop-place-init

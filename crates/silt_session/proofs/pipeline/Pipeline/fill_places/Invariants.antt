@@ -1,6 +1,4 @@
-use Rattle.silt_session.proofs.Common.{◌≡◌, ◌≤◌, ◌+◌, ◌++◌, List, vec_capacity, vec_len, deque_capacity, deque_len, PlainReply, PassesOn}
-use Rattle.silt_session.specs.Pipelines.{Fills}
-use Rattle.silt_session.specs.declared.place.Place.{Place}
+use Rattle.silt_session.proofs.Common.{◌≡◌, ◌≤◌, ◌+◌, ◌++◌, List, vec_capacity, vec_len, deque_capacity, deque_len, PlainReply, PassesOn, Fills, Place}
 use Rattle.silt_session.proofs.pipeline.Pipeline.fill_places.Given as goal
 
 -- the places so far have their replies, by the first tasks

@@ -1,5 +1,4 @@
-use Rattle.silt_session.proofs.Common.{◌≡◌, ◌≤◌, ◌+◌, ◌++◌, map, vec_capacity, vec_len, deque_capacity, deque_len}
-use Rattle.silt_session.specs.Pipelines.{reply_without_tasks}
+use Rattle.silt_session.proofs.Common.{◌≡◌, ◌≤◌, ◌+◌, ◌++◌, map, vec_capacity, vec_len, deque_capacity, deque_len, reply_without_tasks}
 use Rattle.silt_session.proofs.pipeline.Pipeline.fill_without_tasks.Given as goal
 
 -- the places so far have their replies

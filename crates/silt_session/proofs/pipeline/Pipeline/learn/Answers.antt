@@ -1,6 +1,5 @@
-use Rattle.silt_session.proofs.Common.{ap, refl, ◌∙◌}
+use Rattle.silt_session.proofs.Common.{ap, refl, ◌∙◌, Pipeline}
 use Rattle.silt_session.proofs.Tolds.{more_both, more_none}
-use Rattle.silt_session.specs.declared.pipeline.Pipeline.{Pipeline}
 use Rattle.silt_session.proofs.pipeline.Pipeline.learn.Goals as goal
 
 pub loop-task-init : goal.loop-task-init

@@ -1,5 +1,4 @@
-use Rattle.silt_session.proofs.Common.{◌++◌, ◌∷◌, [], append_assoc, length, refl, sym, ◌∙◌, ap, arith, append-nil, into_iter_items}
-use Rattle.std.proofs.lemmas.List.{nil_from_length}
+use Rattle.silt_session.proofs.Common.{◌++◌, ◌∷◌, [], append_assoc, length, refl, sym, ◌∙◌, ap, arith, append-nil, into_iter_items, nil_from_length}
 use Rattle.silt_session.proofs.Pipelines.{answers_none}
 use Rattle.silt_session.proofs.Tolds.{more_both, more_none}
 use Rattle.silt_session.proofs.session.Session.take_all.Goals as goal

@@ -1,6 +1,5 @@
-use Rattle.silt_session.proofs.Common.{◌≡◌, ◌++◌, List, length, into_iter_items, IsToldMore}
+use Rattle.silt_session.proofs.Common.{◌≡◌, ◌++◌, List, length, into_iter_items, IsToldMore, AnswersSoFar, HasRoom}
 use Rattle.silt_event.specs.declared.event.Event.{Event as EventOf}
-use Rattle.silt_session.specs.Pipelines.{AnswersSoFar, HasRoom}
 use Rattle.silt_session.proofs.session.Session.take_all.Given as goal
 
 -- the events so far have their replies or wait, there is room for the others, and what was told stays told

@@ -1,5 +1,4 @@
-use Rattle.silt_session.proofs.Common.{◌<◌, ◌∙◌, get_or, length, sym, refl}
-use Rattle.std.proofs.lemmas.Option.{slice_get-get_or}
+use Rattle.silt_session.proofs.Common.{◌<◌, ◌∙◌, get_or, length, sym, refl, slice_get-get_or}
 use Rattle.silt_session.proofs.Sets.{flush_only, one_gives}
 use Rattle.silt_session.proofs.set.SetAskingAsking.ask.Goals as goal
 

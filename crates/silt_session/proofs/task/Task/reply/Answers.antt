@@ -1,8 +1,7 @@
-use Rattle.silt_session.proofs.Common.{ap, sym, ◌∙◌, Option, PlaceState}
-use Rattle.std.proofs.Common.{subst}
+use Rattle.silt_session.proofs.Common.{ap, sym, ◌∙◌, Option, PlaceState, subst}
 use Rattle.silt_session.proofs.Tolds.{IsReplied, placed_at, replies_so}
-use Rattle.silt_session.proofs.task.Task.reply.Goals as goal
 use Rattle.silt_session.proofs.task.Task.reply.Goals.{in-Some, in-None}
+use Rattle.silt_session.proofs.task.Task.reply.Goals as goal
 
 pub invariant_of-self : goal.invariant_of-self
 invariant_of-self g c =

@@ -1,7 +1,4 @@
-use Rattle.silt_session.proofs.Common.{ap, TaskState, asked_event, IsToldBetween, PlainReply}
-use Rattle.std.specs.Option.{option_map}
-use Rattle.silt_session.specs.Sessions.{IsReplyOf}
-use Rattle.silt_session.specs.declared.task.Placed.{Placed}
+use Rattle.silt_session.proofs.Common.{ap, TaskState, asked_event, IsToldBetween, PlainReply, option_map, IsReplyOf, Placed}
 use Rattle.silt_session.proofs.Tolds.{shows_then}
 use Rattle.silt_session.proofs.task.Task.tell.Goals as goal
 
