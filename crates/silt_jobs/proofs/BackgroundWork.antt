@@ -1,17 +1,14 @@
 -- Steps of background work, one more at a time.
-use Rattle.std.proofs.Common.{option_map, Err}
-use Rattle.silt_jobs.proofs.Common.{◌≡◌, ◌≢◌, ◌+◌, ◌≤◌, ◌<◌, ℕ, Bool, true, false, IsTrue, List, [], ◌∷◌, ◌++◌, length, Option, Some, None, Result, Ok, refl, sym, ap}
-use Rattle.silt_jobs.proofs.Common.{◌∙◌, subst, arith, inl, inr, All-nil, All-push, Ghosts, Shape, HasValueOf, Convert, Merge, Refusal, CoreState, DoesPlain}
-use Rattle.silt_jobs.proofs.Common.{is_refused, PlainRefusal, TendsDue, TendsThenDoes, begins, due_at_once, is_idle, ◌&&◌, ◌||◌, not, cond, IsErrAnd, is_some}
-use Rattle.silt_jobs.proofs.Common.{length-append, PlainReply, plain_refusal, Event, Idle, Waiting, Reply, NoRoom, Spent, Refused, Does, awaits_region, convert_due}
-use Rattle.silt_jobs.proofs.Common.{is_convert, is_merge, wants_convert}
+use Rattle.silt_jobs.proofs.Common.{option_map, Err, ◌≡◌, ◌≢◌, ◌+◌, ◌≤◌, ◌<◌, ℕ, Bool, true, false, IsTrue, List, [], ◌∷◌, ◌++◌, length, Option, Some, None, Result, Ok, refl, sym, ap, ◌∙◌, subst}
+use Rattle.silt_jobs.proofs.Common.{arith, inl, inr, All-nil, All-push, Ghosts, Shape, HasValueOf, Convert, Merge, Refusal, CoreState, DoesPlain, is_refused, PlainRefusal, TendsDue, TendsThenDoes}
+use Rattle.silt_jobs.proofs.Common.{begins, due_at_once, is_idle, ◌&&◌, ◌||◌, not, cond, IsErrAnd, is_some, length-append, PlainReply, plain_refusal, Event, Idle, Waiting, Reply, NoRoom, Spent}
+use Rattle.silt_jobs.proofs.Common.{Refused, Does, awaits_region, convert_due, is_convert, is_merge, wants_convert, AreDone, RunsDue, StopsAt, TakesSteps, TendsAll, TendsPlain, count_of}
+use Rattle.silt_jobs.proofs.Common.{due_between, error_of, is_paused, merges, most_steps}
 use Rattle.silt_event.specs.Events.{plain}
 use Rattle.silt_event.specs.declared.event.Event.TheVariants.{Delete, Put, Swap}
 use Rattle.silt_event.specs.declared.progress.Progress.{Progress as ProgressOf}
 use Rattle.silt_event.specs.declared.reply.Reply.TheVariants.{Progress}
 use Rattle.silt_store_set.specs.CoreState.{Cause, ConvertsTo}
-use Rattle.silt_jobs.specs.BackgroundWork.{AreDone, RunsDue, StopsAt, TakesSteps, TendsAll, TendsPlain, count_of, due_between, error_of, is_paused, merges}
-use Rattle.silt_jobs.specs.BackgroundWork.{most_steps}
 use Rattle.silt_jobs.specs.declared.jobs.background_work.Steps.{Steps}
 
 -- one event more is one more of its kind

@@ -1,9 +1,8 @@
 -- The lines of entries, written piece by piece.
-use Rattle.std.proofs.Common.{IfOk, Err, append-nil}
+use Rattle.silt_jobs.proofs.Common.{IfOk, Err, append-nil, ◌≡◌, ◌++◌, ℕ, IsTrue, List, [], ◌∷◌, Option, Some, None, Result, Ok, inl, inr, refl, sym, subst, ◌∙◌, append_assoc, Appends, Content}
+use Rattle.silt_jobs.proofs.Common.{GaveAny, Ghosts, Key, image_map, OpenError, IsNextEntry, PassesTo, Appends-append, Ended, AreFirstEntries, EndsEarly, Appends-none}
 use Rattle.std.proofs.lemmas.Grind.{flat_map-append}
-use Rattle.silt_jobs.proofs.Common.{◌≡◌, ◌++◌, ℕ, IsTrue, List, [], ◌∷◌, Option, Some, None, Result, Ok, inl, inr, refl, sym, subst, ◌∙◌, append_assoc, Appends}
-use Rattle.silt_jobs.proofs.Common.{Content, GaveAny, Ghosts, Key, image_map, OpenError, IsNextEntry, PassesTo, Appends-append, Dumps, Ended, AreFirstEntries}
-use Rattle.silt_jobs.proofs.Common.{EndsEarly, Appends-none, AreDumped, EndsDump, GathersLines, WritesLines, entry_lines, put_line}
+use Rattle.silt_jobs.specs.Dump.{Dumps, AreDumped, EndsDump, GathersLines, WritesLines, entry_lines, put_line}
 use Rattle.silt_dump.specs.Order.{AreOrderedTo}
 use Rattle.silt_dump.specs.Stream.{Streams, value_len_of}
 use Rattle.silt_dump.specs.declared.stream.EntryStream.{EntryStream}

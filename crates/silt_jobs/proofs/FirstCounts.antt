@@ -1,8 +1,7 @@
 -- The first bucket count that passes a test, one count after another.
-use Rattle.std.specs.Option.{option_map}
-use Rattle.silt_jobs.proofs.Common.{sym, ◌≡◌, ◌+◌, ◌<◌, ◌≤◌, ℕ, Bool, true, false, drop, get_or, length, List, [], ◌∷◌, Option, Some, None, refl, ap, ◌∙◌, Shape}
+use Rattle.silt_jobs.proofs.Common.{option_map, sym, ◌≡◌, ◌+◌, ◌<◌, ◌≤◌, ℕ, Bool, true, false, drop, get_or, length, List, [], ◌∷◌, Option, Some, None, refl, ap, ◌∙◌, Shape, shape_planned}
+use Rattle.silt_jobs.proofs.Common.{if◌then◌else◌, at_drop_more, drop_all, PlanRequest}
 use Rattle.silt_jobs.specs.Plans.{first_with}
-use Rattle.silt_jobs.proofs.Common.{shape_planned, if◌then◌else◌, at_drop_more, drop_all, PlanRequest}
 
 module _ (test : ℕ → Bool) where
   first_more : (n : ℕ) (ns : List ℕ) → first_with test (n ∷ ns) ≡ (if test n then Some n else first_with test ns)

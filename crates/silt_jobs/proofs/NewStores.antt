@@ -1,7 +1,6 @@
 -- New stores on disks in memory: why one is refused, and which crash images it has.
-use Rattle.silt_jobs.proofs.Common.{◌≡◌, ◌∙◌, ℕ, ap, length, List, get_or, IsTrue, subst, GaveAny, size, Content, LeavesOnly, Shape, device_size, memory_content}
-use Rattle.silt_jobs.proofs.Common.{MemFault, IsSafe, NewStoreCause, empty, replicate, length-replicate, memory_gave, MemDisk, FormatCause, FormatError}
-use Rattle.silt_jobs.proofs.Common.{refusal_of_formatting, StandsFor}
+use Rattle.silt_jobs.proofs.Common.{◌≡◌, ◌∙◌, ℕ, ap, length, List, get_or, IsTrue, subst, GaveAny, size, Content, LeavesOnly, Shape, device_size, memory_content, MemFault, IsSafe, NewStoreCause}
+use Rattle.silt_jobs.proofs.Common.{empty, replicate, length-replicate, memory_gave, MemDisk, FormatCause, FormatError, refusal_of_formatting, StandsFor}
 use Rattle.silt_disk.specs.Disk.{Stays}
 use Rattle.silt_device.specs.Memory.{IsFresh}
 use Rattle.silt_standing.specs.Standing.{SameDisk}

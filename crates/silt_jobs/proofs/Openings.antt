@@ -1,8 +1,6 @@
 -- Jobs on a disk that a source gave, or did not give, and why a header is not known.
-use Rattle.std.specs.Prelude.{IfOk, Err}
-use Rattle.std.specs.Option.{IsSomeAnd}
-use Rattle.silt_jobs.proofs.Common.{◌≡◌, ℕ, List, Option, Some, None, Result, Ok, inl, inr, refl, subst, Content, Ghosts, CoreState, Refuses, Ended, Why, IsTrue}
-use Rattle.silt_jobs.proofs.Common.{GaveAny, size, OpenError, IfErr, IsOkAnd, Says, SaysSo, Unmarked, Opens, header_of, shape_found, IsRefusedLook}
+use Rattle.silt_jobs.proofs.Common.{IfOk, Err, IsSomeAnd, ◌≡◌, ℕ, List, Option, Some, None, Result, Ok, inl, inr, refl, subst, Content, Ghosts, CoreState, Refuses, Ended, Why, IsTrue, GaveAny}
+use Rattle.silt_jobs.proofs.Common.{size, OpenError, IfErr, IsOkAnd, Says, SaysSo, Unmarked, Opens, header_of, shape_found, IsRefusedLook}
 use Rattle.silt_jobs.specs.Openings.{IsNotOpened, IsRefused, IsUnopened, OnDisk, RefusesDisk, RefusesFor}
 use Rattle.silt_jobs.specs.Damage.{LacksShape}
 use Rattle.silt_recovery.specs.declared.fault.OpenError.TheVariants.{NotFormatted, Damaged, Crowded, Device, NoMemory}

@@ -1,9 +1,7 @@
 -- Taking bytes in two parts is taking them at once, and the values of a script's puts and swaps have their length.
-use Rattle.std.proofs.Common.{Err}
-use Rattle.std.specs.Prelude.{IfOk}
-use Rattle.silt_jobs.proofs.Common.{◌≡◌, ◌≢◌, ◌+◌, take, drop, ℕ, true, false, None, Result, inl, inr, List, [], ◌∷◌, ◌++◌, refl, subst, Ok, HoldsBytes, lines_after}
-use Rattle.silt_jobs.proofs.Common.{rest_after, HasValueOf, TakesBytes, Fits, All-push, All-nil, take-add, Event, LineFault, asked_by, is_blank, lines_after-append}
-use Rattle.silt_jobs.proofs.Common.{piece-line, piece-open, TakesAsked, TakesLine, TakesLines, EndsReading, HasReadNothing, All, OnOk}
+use Rattle.silt_jobs.proofs.Common.{Err, IfOk, ◌≡◌, ◌≢◌, ◌+◌, take, drop, ℕ, true, false, None, Result, inl, inr, List, [], ◌∷◌, ◌++◌, refl, subst, Ok, HoldsBytes, lines_after, rest_after}
+use Rattle.silt_jobs.proofs.Common.{HasValueOf, TakesBytes, Fits, All-push, All-nil, take-add, Event, LineFault, asked_by, is_blank, lines_after-append, piece-line, piece-open, TakesAsked}
+use Rattle.silt_jobs.proofs.Common.{TakesLine, TakesLines, EndsReading, HasReadNothing, All, OnOk}
 use Rattle.silt_wire.specs.declared.line.LineFault.TheVariants.{NoMemory}
 use Rattle.silt_wire.specs.declared.line_buffer.LineBuffer.{LineBuffer}
 use Rattle.silt_wire.specs.declared.line_buffer.Taken.{Taken}

@@ -1,9 +1,7 @@
 -- The line of a refusal, and scripts that end with it.
-use Rattle.std.proofs.Common.{Err}
+use Rattle.silt_jobs.proofs.Common.{Err, IfOk, ◌≡◌, [], ◌∷◌, ◌++◌, List, ℕ, Option, ap, arith, sym, Result, Ok, inr, Appends, Refusal, Shape, MemFault, NewStoreCause, codes, Refused, reply_line}
+use Rattle.silt_jobs.proofs.Common.{AnswersScript, ScriptCause}
 use Rattle.std.proofs.lemmas.Fmt.{decimal_digit}
-use Rattle.std.specs.Prelude.{IfOk}
-use Rattle.silt_jobs.proofs.Common.{◌≡◌, [], ◌∷◌, ◌++◌, List, ℕ, Option, ap, arith, sym, Result, Ok, inr, Appends, Refusal, Shape, MemFault, NewStoreCause, codes}
-use Rattle.silt_jobs.proofs.Common.{Refused, reply_line, AnswersScript, ScriptCause}
 use Rattle.silt_event.specs.declared.refusal.Refusal.TheVariants.{NoMemory, Device}
 
 pub no_memory_line : (F : Type 0) → codes "refused 6 NoMemory\n" ≡ reply_line {F = F} (Refused NoMemory)

@@ -1,9 +1,7 @@
 -- How sessions of one store and of the stores of a set ended.
-use Rattle.std.specs.Prelude.{IfOk}
-use Rattle.std.proofs.lemmas.List.Elements.{All-map}
-use Rattle.silt_jobs.proofs.Common.{◌≡◌, ℕ, false, List, [], ◌∷◌, Option, None, refl, sym, inr, ◌∙◌, IfOk-weaker, Ghosts, AreAlike, CoreState, DoesPlain}
-use Rattle.silt_jobs.proofs.Common.{AdministersTended, PlainRefusal, TendedState, TendsThenDoes, first_refusal, set_value_len, tending_each, Ended, Failures, Tally}
-use Rattle.silt_jobs.proofs.Common.{AdministersCore, SessionEnd, RunOptions, AnswersReader, EndsLife, EndsSession, EndsSo, AnswersCores, AnswersTended, OpensSession}
+use Rattle.silt_jobs.proofs.Common.{IfOk, All-map, ◌≡◌, ℕ, false, List, [], ◌∷◌, Option, None, refl, sym, inr, ◌∙◌, IfOk-weaker, Ghosts, AreAlike, CoreState, DoesPlain, AdministersTended}
+use Rattle.silt_jobs.proofs.Common.{PlainRefusal, TendedState, TendsThenDoes, first_refusal, set_value_len, tending_each, Ended, Failures, Tally, AdministersCore, SessionEnd, RunOptions}
+use Rattle.silt_jobs.proofs.Common.{AnswersReader, EndsLife, EndsSession, EndsSo, AnswersCores, AnswersTended, OpensSession}
 use Rattle.silt_shards.specs.Sets.{value_len_of}
 use Rattle.silt_jobs.specs.declared.jobs.disk_jobs.EndedSession.{EndedSession}
 use Rattle.silt_jobs.specs.declared.people.streams.StreamError.{StreamError}

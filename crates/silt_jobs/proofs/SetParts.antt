@@ -1,10 +1,10 @@
 -- Jobs on the files of a set, shard by shard.
+use Rattle.silt_jobs.proofs.Common.{Err, ◌≡◌, ◌≤◌, ◌<◌, ◌+◌, ◌∙◌, ℕ, zero, suc, drop, max, false, true, List, [], ◌∷◌, ◌++◌, Option, Some, None, inl, inr, refl, sym, ap, arith, Ghosts}
+use Rattle.silt_jobs.proofs.Common.{exit_status, DoesEach, DoesFirst, DumpsFirst, worst_status, Ended, Failures, get_or, length, Bool, Result, Ok, size, Shape, device_size, TendedState, Refuses}
+use Rattle.silt_jobs.proofs.Common.{MakesShards, first_refusal, refusal_or, Why, is_err, MatchResult, at_shard, is_done_so, HasFormatted, MakesShard, shard_file, done_by, DoesShard, ended_with}
+use Rattle.silt_jobs.proofs.Common.{drop-cons, FormatOptions, Numbers, shape_asked}
 use Rattle.std.specs.Prelude.{slice_get}
-use Rattle.std.proofs.Common.{Err}
-use Rattle.silt_jobs.proofs.Common.{◌≡◌, ◌≤◌, ◌<◌, ◌+◌, ◌∙◌, ℕ, zero, suc, drop, max, false, true, List, [], ◌∷◌, ◌++◌, Option, Some, None, inl, inr, refl, sym, ap}
-use Rattle.silt_jobs.proofs.Common.{arith, Ghosts, Dumps, exit_status, DoesEach, DoesFirst, DumpsFirst, worst_status, Ended, Failures, get_or, length, Bool, Result}
-use Rattle.silt_jobs.proofs.Common.{Ok, size, Shape, device_size, TendedState, Refuses, MakesShards, first_refusal, refusal_or, Why, is_err, MatchResult, at_shard}
-use Rattle.silt_jobs.proofs.Common.{is_done_so, HasFormatted, MakesShard, shard_file, done_by, DoesShard, ended_with, drop-cons, FormatOptions, Numbers, shape_asked}
+use Rattle.silt_jobs.specs.Dump.{Dumps}
 use Rattle.silt_jobs.specs.declared.people.ended.Ends.{Ends}
 use Rattle.silt_jobs.specs.declared.jobs.set_jobs.ShardJob.{ShardJob}
 use Rattle.silt_device.specs.declared.source.DiskSource.{Ghosts as SourceOf}

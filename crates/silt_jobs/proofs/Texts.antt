@@ -1,7 +1,7 @@
 -- The texts of two parts of a script are the text of both.
-use Rattle.std.proofs.lemmas.List.{append-nil}
-use Rattle.silt_jobs.proofs.Common.{◌≡◌, ◌+◌, ◌<◌, ◌≤◌, take, get_or, ℕ, List, [], ◌∷◌, ◌++◌, length, refl, sym, ap, ◌∙◌, append_assoc, arith, Option, take_more}
-use Rattle.silt_jobs.proofs.Common.{Appends, LinePlace, Appends-append, marks_text, place_past, start, LifeReply, mark_text, place_after}
+use Rattle.silt_jobs.proofs.Common.{append-nil, ◌≡◌, ◌+◌, ◌<◌, ◌≤◌, take, get_or, ℕ, List, [], ◌∷◌, ◌++◌, length, refl, sym, ap, ◌∙◌, append_assoc, arith, Option, take_more, Appends}
+use Rattle.silt_jobs.proofs.Common.{Appends-append, marks_text, place_past, start, LifeReply, mark_text, place_after}
+use Rattle.silt_jobs.specs.declared.jobs.transcript.LinePlace.{LinePlace}
 use Rattle.silt_jobs.specs.declared.jobs.script_lines.Mark.{Mark}
 
 place_past-append : (place : LinePlace) (xs ys : List Mark) → place_past place (xs ++ ys) ≡ place_past (place_past place xs) ys

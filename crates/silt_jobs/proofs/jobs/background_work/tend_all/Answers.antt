@@ -2,8 +2,8 @@ use Rattle.silt_jobs.proofs.Common.{refl, sym, ◌∙◌, ap, arith, Convert, Me
 use Rattle.silt_engine.proofs.Exits.{on_error}
 use Rattle.silt_store_set.specs.Replies.{progress_reply}
 use Rattle.silt_jobs.proofs.BackgroundWork.{counted_all, counted_more, none_counted, stops_more}
-use Rattle.silt_jobs.proofs.jobs.background_work.tend_all.Goals as goal
 use Rattle.silt_jobs.proofs.jobs.background_work.tend_all.Goals.{then-wants_convert+in_ok-convert, else-wants_convert+then-merges+in_ok-merge}
+use Rattle.silt_jobs.proofs.jobs.background_work.tend_all.Goals as goal
 
 pub loop-turn-init : goal.loop-turn-init
 loop-turn-init g c = none_counted g.D.Disk c.args.least c.args.core.now

@@ -1,7 +1,7 @@
 use Rattle.silt_jobs.proofs.Common.{refl, sym, ◌∙◌, arith, Convert, Merge, TendsDue, begins, is_idle}
 use Rattle.silt_jobs.proofs.BackgroundWork.{due_done, due_error, due_out, due_refused, going_more, going_two, none_going, paused_due, rests_so}
-use Rattle.silt_jobs.proofs.jobs.background_work.tend_due.Goals as goal
 use Rattle.silt_jobs.proofs.jobs.background_work.tend_due.Goals.{then-is_paused+in_ok-merge, else-is_paused}
+use Rattle.silt_jobs.proofs.jobs.background_work.tend_due.Goals as goal
 
 pub loop-turn-init : goal.loop-turn-init
 loop-turn-init g c = none_going g.D.Disk c.args.least c.args.core.now

@@ -1,5 +1,4 @@
-use Rattle.silt_jobs.proofs.Common.{◌≡◌, ◌≤◌, ◌∙◌, ℕ, drop, length, max, suc, vec_len, refl, sym, ap, subst, arith, into_iter_items, HasFailed, exit_status}
-use Rattle.silt_jobs.proofs.Common.{worst_status}
+use Rattle.silt_jobs.proofs.Common.{◌≡◌, ◌≤◌, ◌∙◌, ℕ, drop, length, max, suc, vec_len, refl, sym, ap, subst, arith, into_iter_items, HasFailed, exit_status, worst_status}
 use Rattle.silt_shards.proofs.Openings.{count_most}
 use Rattle.silt_jobs.proofs.SetParts.{all_done, behind_place, broken_off, done_next, worst_more}
 use Rattle.silt_jobs.proofs.jobs.set_jobs.do_on_each.Goals as goal

@@ -1,5 +1,5 @@
-use Rattle.std.proofs.lemmas.Option.{slice_get_within}
 use Rattle.silt_jobs.proofs.Common.{length, ap, arith}
+use Rattle.std.proofs.lemmas.Option.{slice_get_within}
 use Rattle.silt_jobs.proofs.jobs.set_jobs.open_set.Goals as goal
 
 pub index-requires : goal.index-requires

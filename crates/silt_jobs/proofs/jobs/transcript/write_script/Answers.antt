@@ -1,5 +1,5 @@
-use Rattle.std.specs.List.{slice_get}
 use Rattle.silt_jobs.proofs.Common.{opening_text}
+use Rattle.std.specs.List.{slice_get}
 use Rattle.silt_jobs.proofs.Texts.{place-next, written-more, place_after-within}
 use Rattle.silt_jobs.proofs.jobs.transcript.write_script.Goals as goal
 

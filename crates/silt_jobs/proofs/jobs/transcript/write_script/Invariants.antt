@@ -1,5 +1,5 @@
-use Rattle.std.specs.List.{slice_get}
 use Rattle.silt_jobs.proofs.Common.{◌≡◌, ◌≤◌, take, ◌++◌, Appends, opening_text, marks_text, place_past, start}
+use Rattle.std.specs.List.{slice_get}
 use Rattle.silt_jobs.proofs.jobs.transcript.write_script.Given as goal
 
 abbrev pub invariant-loop-mark : goal.invariant-loop-mark

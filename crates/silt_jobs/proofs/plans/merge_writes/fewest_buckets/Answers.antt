@@ -1,5 +1,4 @@
-use Rattle.std.specs.Option.{unwrap_or}
-use Rattle.silt_jobs.proofs.Common.{ℕ, Option, ap, refl, sym, bucket_counts, ◌∙◌, needs_buckets}
+use Rattle.silt_jobs.proofs.Common.{unwrap_or, ℕ, Option, ap, refl, sym, bucket_counts, ◌∙◌, needs_buckets}
 use Rattle.silt_jobs.proofs.FirstCounts.{it_fails, it_passes, none_here}
 use Rattle.silt_jobs.proofs.plans.merge_writes.fewest_buckets.Goals as goal
 

@@ -1,6 +1,4 @@
-use Rattle.std.specs.Option.{option_map_or}
-use Rattle.silt_jobs.proofs.Common.{ℕ, Option, ap, refl, sym, bucket_counts, ◌∙◌, has_room}
-use Rattle.silt_jobs.specs.Plans.{rows_between_merges}
+use Rattle.silt_jobs.proofs.Common.{option_map_or, ℕ, Option, ap, refl, sym, bucket_counts, ◌∙◌, has_room, rows_between_merges}
 use Rattle.silt_jobs.proofs.FirstCounts.{it_fails, it_passes, none_here}
 use Rattle.silt_jobs.proofs.plans.merge_writes.most_rows.Goals as goal
 

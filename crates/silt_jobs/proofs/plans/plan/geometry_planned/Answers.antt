@@ -1,5 +1,4 @@
-use Rattle.std.specs.Option.{option_map}
-use Rattle.silt_jobs.proofs.Common.{ap, shape_planned, ◌∙◌, get_or, refl, sym, bucket_counts, is_planned}
+use Rattle.silt_jobs.proofs.Common.{option_map, ap, shape_planned, ◌∙◌, get_or, refl, sym, bucket_counts, is_planned}
 use Rattle.silt_jobs.proofs.FirstCounts.{chosen, first_here, none_here, not_chosen}
 use Rattle.silt_jobs.proofs.plans.plan.geometry_planned.Goals as goal
 

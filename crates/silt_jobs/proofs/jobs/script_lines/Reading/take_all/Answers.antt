@@ -1,7 +1,7 @@
 use Rattle.silt_jobs.proofs.Common.{[], ◌++◌, take, rest_after-append, Consumes-append, Consumes-keeps}
 use Rattle.silt_jobs.proofs.Readings.{TakesBytes-append}
-use Rattle.silt_jobs.proofs.jobs.script_lines.Reading.take_all.Goals as goal
 use Rattle.silt_jobs.proofs.jobs.script_lines.Reading.take_all.Goals.{in-Ok+in_ok-take_bytes-in-Ok, in-Err}
+use Rattle.silt_jobs.proofs.jobs.script_lines.Reading.take_all.Goals as goal
 
 pub loop-preserved : goal.loop-preserved
 loop-preserved g c =

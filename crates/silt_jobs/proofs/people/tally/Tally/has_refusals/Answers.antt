@@ -1,6 +1,6 @@
+use Rattle.silt_jobs.proofs.Common.{rules, tests, slice_range, has_any}
 use Rattle.std.proofs.lemmas.Iterator.{YieldsList-from_slice}
 use Rattle.std.proofs.lemmas.Iterator.Search.{any_from_yields_List}
-use Rattle.silt_jobs.proofs.Common.{rules, tests, slice_range, has_any}
 use Rattle.silt_jobs.proofs.people.tally.Tally.has_refusals.Goals as goal
 
 pub returns : goal.returns
