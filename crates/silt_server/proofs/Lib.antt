@@ -1,3 +1,4 @@
 mod Sends
 mod Serving
 mod Sets
+pub mod Names

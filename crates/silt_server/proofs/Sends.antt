@@ -1,6 +1,5 @@
 -- What the threads of a server may share.
-use denote.Param.Send.{sendable}
-use Rattle.std.proofs.Crossing.{crosses}
+use Rattle.silt_server.proofs.Names.{sendable, crosses}
 use Rattle.std.proofs.sync.RwLock.TheSendSync.{the_sync as lock_sync}
 use Rattle.silt_desk.proofs.Shares.{desk_send, desk_sync}
 use Rattle.silt_session.proofs.job.Job.TheSendSync.{the_send as job_send, the_sync as job_sync}

@@ -1,19 +1,13 @@
 -- What a server writes.
-use Rattle.std.proofs.Common.{◌≡◌, ◌⊎◌, ℕ, ◌%◌, ◌^◌, Option, List, [], ◌∷◌, ◌++◌, ap, arith, codes, inl, inr, length, refl, subst, sym, take, drop, take-append-drop, IfOk, OnOk, Result, Ok}
-use Rattle.std.proofs.Common.{Err}
-use Rattle.silt_wire.proofs.Streams.{Appends-append, Appends-keeps, Appends-none}
-use Rattle.silt_disk.specs.declared.disk.Disk.{Ghosts}
-use Rattle.silt_store_set.specs.CoreState.{CoreState}
+use Rattle.silt_server.proofs.Names.{◌≡◌, ◌⊎◌, ℕ, ◌%◌, ◌^◌, Option, List, [], ◌∷◌, ◌++◌, ap, arith, codes, inl, inr, length, refl, subst, sym, take, drop, take-append-drop, IfOk, OnOk, Result}
+use Rattle.silt_server.proofs.Names.{Ok, Err, Appends-append, Appends-keeps, Appends-none, Ghosts, CoreState, SeenStore, LeavesCalls, BreaksServing, IsTraced, PrintsCalls, PrintsServed}
+use Rattle.silt_server.proofs.Names.{ServesCalls, WritesHead, head_text, network_text, no_memory_text, calls_text, listening_text, refused_text}
 use Rattle.silt_desk.specs.History.{count_accepted}
-use Rattle.silt_desk.specs.Seeing.{SeenStore}
-use Rattle.silt_desk.specs.Servings.{LeavesCalls}
-use Rattle.silt_server.specs.Serving.{BreaksServing, IsTraced, PrintsCalls, PrintsServed, ServesCalls, WritesHead, head_text, network_text, no_memory_text}
 use Rattle.std.proofs.lemmas.Fmt.{decimal_digit}
 use Rattle.std.specs.Io.KnownBytes.{Appends, WriteAppends}
 use Rattle.silt_event.specs.declared.refusal.Refusal.{Refusal}
 use Rattle.silt_event.specs.declared.refusal.Refusal.TheVariants.{NoMemory}
 use Rattle.silt_wire.specs.Sessions.{IsBeginning}
-use Rattle.silt_server.specs.Texts.{calls_text, listening_text, refused_text}
 
 no_memory_is : (F : Type 0) → codes "refused 6 NoMemory\n" ≡ refused_text {F = F} NoMemory
 no_memory_is F = ap (λ (digits : List ℕ). (codes "refused " ++ (digits ++ codes " NoMemory")) ++ 10 ∷ []) (sym (decimal_digit 6 (search (arith))))

@@ -1,23 +1,13 @@
 -- The calls of all desks of a set, and what its server writes.
-use Rattle.std.proofs.Common.{◌≡◌, ◌⊎◌, inl, inr, ◌<◌, ◌≤◌, ◌+◌, ◌%◌, ◌^◌, ℕ, zero, suc, List, [], ◌∷◌, ◌++◌, Some, arith, get_or, length, map, refl, slice_get, subst, sym, take, ◌∙◌, ap, All}
-use Rattle.std.proofs.Common.{IsSomeAnd, Option, None}
-use Rattle.std.specs.List.{sum, AllZip}
+use Rattle.silt_server.proofs.Names.{◌≡◌, ◌⊎◌, inl, inr, ◌<◌, ◌≤◌, ◌+◌, ◌%◌, ◌^◌, ℕ, zero, suc, List, [], ◌∷◌, ◌++◌, Some, arith, get_or, length, map, refl, slice_get, subst, sym, take, ◌∙◌, ap}
+use Rattle.silt_server.proofs.Names.{All, IsSomeAnd, Option, None, sum, AllZip, length-map, map-append, take_all, take_more, All-cons, All-nil, Ghosts, CoreState, AnchoredState, LeadsFrom}
+use Rattle.silt_server.proofs.Names.{SeenStore, seen, LeavesCalls, Appends-append, AreInPlace, AreNewLogs, CountsEach, EachFrom, IsLedFrom, IsNamedFor, LeavesEach, LeavesFrom, PrintsAllCalls}
+use Rattle.silt_server.proofs.Names.{PrintsAllServed, WritesHead, head_text, seen_at, calls_text}
 use Rattle.std.specs.Option.{option_map, unwrap_or}
-use Rattle.std.proofs.lemmas.List.{length-map, map-append, take_all, take_more}
-use Rattle.std.proofs.lemmas.List.Elements.{All-cons, All-nil}
 use Rattle.std.proofs.lemmas.Option.{slice_get-map}
 use Rattle.std.proofs.lemmas.List.Sums.{sum_by-append}
 use Rattle.logbook.specs.Pages.{Book}
-use Rattle.silt_disk.specs.declared.disk.Disk.{Ghosts}
-use Rattle.silt_store_set.specs.CoreState.{CoreState}
-use Rattle.silt_desk.specs.Anchors.{AnchoredState, LeadsFrom}
 use Rattle.silt_desk.specs.CallLogs.{CallsSeen}
-use Rattle.silt_desk.specs.Seeing.{SeenStore, seen}
-use Rattle.silt_desk.specs.Servings.{LeavesCalls}
-use Rattle.silt_wire.proofs.Streams.{Appends-append}
-use Rattle.silt_server.specs.Serving.{AreInPlace, AreNewLogs, CountsEach, EachFrom, IsLedFrom, IsNamedFor, LeavesEach, LeavesFrom, PrintsAllCalls, PrintsAllServed, WritesHead, head_text}
-use Rattle.silt_server.specs.Serving.{seen_at}
-use Rattle.silt_server.specs.Texts.{calls_text}
 
 module _ {T : Type 0} (counts : T → ℕ → ℕ → Type 0) where
   -- one more trace counts so many calls

@@ -1,4 +1,4 @@
-use Rattle.std.proofs.Common.{◌<◌, ◌≤◌, [], ◌∷◌, ◌++◌, arith, length, refl}
+use Rattle.silt_server.proofs.Names.{◌<◌, ◌≤◌, [], ◌∷◌, ◌++◌, arith, length, refl}
 use Rattle.silt_server.proofs.Sets.{calls_all, calls_next, sum_more}
 use Rattle.silt_server.proofs.serve_set.calls_at.Goals as goal
 

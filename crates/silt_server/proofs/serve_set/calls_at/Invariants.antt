@@ -1,5 +1,4 @@
-use Rattle.std.proofs.Common.{◌≡◌, ◌%◌, ◌^◌, ℕ, List, map, sum, take}
-use Rattle.silt_server.specs.Serving.{CountsEach}
+use Rattle.silt_server.proofs.Names.{◌≡◌, ◌%◌, ◌^◌, ℕ, List, map, sum, take, CountsEach}
 use Rattle.silt_server.proofs.serve_set.calls_at.Given as goal
 
 -- the calls of the desks so far are added up

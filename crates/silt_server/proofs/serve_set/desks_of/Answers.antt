@@ -1,4 +1,4 @@
-use Rattle.std.proofs.Common.{◌≡◌, ◌∙◌, ap, arith, length}
+use Rattle.silt_server.proofs.Names.{◌≡◌, ◌∙◌, ap, arith, length}
 use Rattle.silt_server.proofs.Sets.{at_last_of}
 use Rattle.silt_server.proofs.serve_set.desks_of.Goals as goal
 

@@ -1,6 +1,4 @@
-use Rattle.std.proofs.Common.{◌≡◌, ◌≤◌, ◌+◌, length, map, vec_capacity, vec_len}
-use Rattle.std.specs.Vec.Iter.{into_iter_items}
-use Rattle.silt_server.specs.Serving.{AreInPlace}
+use Rattle.silt_server.proofs.Names.{◌≡◌, ◌≤◌, ◌+◌, length, map, vec_capacity, vec_len, into_iter_items, AreInPlace}
 use Rattle.silt_server.proofs.serve_set.desks_of.Given as goal
 
 -- the desks so far are taken, each at its place, and there is room for the others

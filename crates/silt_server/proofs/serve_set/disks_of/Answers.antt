@@ -1,14 +1,5 @@
-use Rattle.std.proofs.Common.{◌≡◌, ◌∙◌, ◌++◌, ◌∷◌, [], List, ap, append_assoc, arith, length, refl, rules, subst, sym}
-use Rattle.std.specs.List.{AllZip}
-use Rattle.std.specs.Prelude.{All, vec_len}
-use Rattle.std.specs.Vec.Iter.{into_iter_items}
-use Rattle.std.proofs.lemmas.List.{append-nil, nil_from_length}
-use Rattle.std.proofs.lemmas.List.Elements.{All-nil, All-push}
-use Rattle.silt_disk.specs.Layout.{Shape}
-use Rattle.silt_store_set.specs.CoreInvariant.{LeavesBegun}
-use Rattle.silt_desk.specs.Anchors.{AnchoredState}
-use Rattle.silt_desk.specs.DeskState.{DeskState}
-use Rattle.silt_server.specs.Serving.{IsLedFrom}
+use Rattle.silt_server.proofs.Names.{◌≡◌, ◌∙◌, ◌++◌, ◌∷◌, [], List, ap, append_assoc, arith, length, refl, rules, subst, sym, AllZip, All, vec_len, into_iter_items, append-nil, nil_from_length}
+use Rattle.silt_server.proofs.Names.{All-nil, All-push, Shape, LeavesBegun, AnchoredState, DeskState, IsLedFrom}
 use Rattle.silt_server.proofs.Sets.{zip_more}
 use Rattle.silt_server.proofs.serve_set.disks_of.Goals as goal
 

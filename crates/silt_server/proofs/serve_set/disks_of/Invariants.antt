@@ -1,12 +1,4 @@
-use Rattle.std.proofs.Common.{◌≡◌, ◌≤◌, ◌+◌, ◌++◌, List, length}
-use Rattle.std.specs.Prelude.{All, vec_capacity, vec_len}
-use Rattle.std.specs.Vec.Iter.{into_iter_items}
-use Rattle.silt_disk.specs.Layout.{Shape}
-use Rattle.silt_store_set.specs.CoreInvariant.{LeavesBegun}
-use Rattle.std.specs.List.{AllZip}
-use Rattle.silt_desk.specs.Anchors.{AnchoredState}
-use Rattle.silt_desk.specs.DeskState.{DeskState}
-use Rattle.silt_server.specs.Serving.{IsLedFrom}
+use Rattle.silt_server.proofs.Names.{◌≡◌, ◌≤◌, ◌+◌, ◌++◌, List, length, All, vec_capacity, vec_len, into_iter_items, Shape, LeavesBegun, AllZip, AnchoredState, DeskState, IsLedFrom}
 use Rattle.silt_server.proofs.serve_set.disks_of.Given as goal
 
 -- the disks so far are given back, each led to by calls, and there is room for the others

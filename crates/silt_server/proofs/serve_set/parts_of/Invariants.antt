@@ -1,5 +1,4 @@
-use Rattle.std.proofs.Common.{◌≤◌, ◌+◌, length, vec_capacity, vec_len}
-use Rattle.std.specs.Vec.Iter.{into_iter_items}
+use Rattle.silt_server.proofs.Names.{◌≤◌, ◌+◌, length, vec_capacity, vec_len, into_iter_items}
 use Rattle.silt_server.proofs.serve_set.parts_of.Given as goal
 
 -- there is room for the others

@@ -1,6 +1,4 @@
-use Rattle.std.proofs.Common.{◌≡◌, ◌∙◌, ◌++◌, ◌∷◌, [], ap, append_assoc, arith, length, map, rules, sym, vec_len}
-use Rattle.std.proofs.lemmas.List.{append-nil, map-append, nil_from_length}
-use Rattle.std.specs.Vec.Iter.{into_iter_items}
+use Rattle.silt_server.proofs.Names.{◌≡◌, ◌∙◌, ◌++◌, ◌∷◌, [], ap, append_assoc, arith, length, map, rules, sym, vec_len, append-nil, map-append, nil_from_length, into_iter_items}
 use Rattle.silt_server.proofs.Sets.{at_last_of}
 use Rattle.silt_server.proofs.serve_set.with_logs.Goals as goal
 

@@ -1,6 +1,4 @@
-use Rattle.std.proofs.Common.{◌≡◌, ◌≤◌, ◌+◌, ◌++◌, length, map, vec_capacity, vec_len}
-use Rattle.std.specs.Vec.Iter.{into_iter_items}
-use Rattle.silt_server.specs.Serving.{AreNewLogs}
+use Rattle.silt_server.proofs.Names.{◌≡◌, ◌≤◌, ◌+◌, ◌++◌, length, map, vec_capacity, vec_len, into_iter_items, AreNewLogs}
 use Rattle.silt_server.proofs.serve_set.with_logs.Given as goal
 
 -- each store so far has its log, and there is room for the others

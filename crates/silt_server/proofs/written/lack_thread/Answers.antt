@@ -1,4 +1,4 @@
-use Rattle.silt_server.specs.Texts.{no_thread_text}
+use Rattle.silt_server.proofs.Names.{no_thread_text}
 use Rattle.silt_server.proofs.Serving.{wrote_some}
 use Rattle.silt_server.proofs.written.lack_thread.Goals as goal
 

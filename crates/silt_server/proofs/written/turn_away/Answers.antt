@@ -1,5 +1,4 @@
-use Rattle.std.proofs.Common.{◌∙◌}
-use Rattle.silt_server.specs.Texts.{busy_text}
+use Rattle.silt_server.proofs.Names.{◌∙◌, busy_text}
 use Rattle.silt_server.proofs.Serving.{wrote_some}
 use Rattle.silt_server.proofs.written.turn_away.Goals as goal
 

@@ -1,5 +1,4 @@
-use Rattle.std.proofs.Common.{◌%◌, ◌^◌, ◌∙◌, inr, sym}
-use Rattle.silt_wire.proofs.Statuses.{told_weaker}
+use Rattle.silt_server.proofs.Names.{◌%◌, ◌^◌, ◌∙◌, inr, sym, told_weaker}
 use Rattle.silt_server.proofs.Serving.{calls_served, leaves_traced}
 use Rattle.silt_server.proofs.serve.Server.serve.Goals as goal
 

@@ -1,5 +1,4 @@
-use Rattle.std.proofs.Common.{Some}
-use Rattle.silt_desk.specs.Seeing.{seen}
+use Rattle.silt_server.proofs.Names.{Some, seen}
 use Rattle.silt_server.proofs.serve.Server.serve.Given as goal
 
 abbrev pub ghosts-serve_traced-N-DeskId : goal.ghosts-serve_traced-N-DeskId

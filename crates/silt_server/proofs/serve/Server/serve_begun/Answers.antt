@@ -1,4 +1,4 @@
-use Rattle.std.proofs.Common.{ap}
+use Rattle.silt_server.proofs.Names.{ap}
 use Rattle.silt_server.proofs.serve.Server.serve_begun.Goals as goal
 
 pub returns-clause-calls : goal.returns-clause-calls

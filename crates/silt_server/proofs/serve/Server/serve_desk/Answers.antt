@@ -1,4 +1,4 @@
-use Rattle.silt_wire.proofs.Statuses.{told_weaker}
+use Rattle.silt_server.proofs.Names.{told_weaker}
 use Rattle.silt_server.proofs.Serving.{breaks_behind, served_written}
 use Rattle.silt_server.proofs.serve.Server.serve_desk.Goals as goal
 

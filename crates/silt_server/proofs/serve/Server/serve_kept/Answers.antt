@@ -1,5 +1,4 @@
-use Rattle.std.proofs.Common.{◌%◌, ◌^◌, ◌∙◌, ℕ, ap, inl, sym}
-use Rattle.silt_wire.proofs.Statuses.{status_told}
+use Rattle.silt_server.proofs.Names.{◌%◌, ◌^◌, ◌∙◌, ℕ, ap, inl, sym, status_told}
 use Rattle.silt_desk.specs.TraceLaws.{leaves_none}
 use Rattle.silt_server.proofs.Serving.{calls_served, leaves_traced}
 use Rattle.silt_server.proofs.serve.Server.serve_kept.Goals as goal

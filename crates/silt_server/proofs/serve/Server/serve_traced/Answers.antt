@@ -1,5 +1,4 @@
-use Rattle.std.proofs.Common.{◌∙◌, ap, sym}
-use Rattle.silt_wire.proofs.Statuses.{never_done}
+use Rattle.silt_server.proofs.Names.{◌∙◌, ap, sym, never_done}
 use Rattle.silt_server.proofs.serve.Server.serve_traced.Goals as goal
 
 pub returns-in-Some : goal.returns-in-Some

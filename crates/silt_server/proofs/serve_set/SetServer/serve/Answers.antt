@@ -1,6 +1,5 @@
-use Rattle.std.proofs.Common.{◌≡◌, ◌∙◌, ap, length, map, refl, rules, sym, vec_len}
+use Rattle.silt_server.proofs.Names.{◌≡◌, ◌∙◌, ap, length, map, refl, rules, sym, vec_len, seen_at}
 use Rattle.silt_server.proofs.Sets.{as_many, leaves_each, named_all}
-use Rattle.silt_server.specs.Serving.{seen_at}
 use Rattle.silt_server.proofs.serve_set.SetServer.serve.Goals as goal
 
 pub serve_named-requires-clause-named : goal.serve_named-requires-clause-named

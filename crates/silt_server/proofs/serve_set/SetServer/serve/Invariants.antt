@@ -1,6 +1,5 @@
-use Rattle.std.proofs.Common.{◌^◌, map}
+use Rattle.silt_server.proofs.Names.{◌^◌, map, seen_at}
 use Rattle.silt_server.proofs.Sets.{book_at}
-use Rattle.silt_server.specs.Serving.{seen_at}
 use Rattle.silt_server.proofs.serve_set.SetServer.serve.Given as goal
 
 -- no books are kept of desks and inboxes

@@ -1,5 +1,4 @@
-use Rattle.std.proofs.Common.{◌≡◌, inl, rules}
-use Rattle.silt_wire.proofs.Statuses.{status_told}
+use Rattle.silt_server.proofs.Names.{◌≡◌, inl, rules, status_told}
 use Rattle.silt_server.proofs.serve_set.SetServer.serve_begun.Goals as goal
 
 pub returns-clause-calls : goal.returns-clause-calls

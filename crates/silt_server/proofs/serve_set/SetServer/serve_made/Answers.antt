@@ -1,5 +1,4 @@
-use Rattle.std.proofs.Common.{◌≡◌, ◌%◌, ◌^◌, arith, inl, inr, length, vec_len, rules}
-use Rattle.std.specs.List.{sum}
+use Rattle.silt_server.proofs.Names.{◌≡◌, ◌%◌, ◌^◌, arith, inl, inr, length, vec_len, rules, sum}
 use Rattle.silt_server.proofs.Sets.{each_none, led_each}
 use Rattle.silt_server.proofs.serve_set.SetServer.serve_made.Goals as goal
 

@@ -1,4 +1,4 @@
-use Rattle.std.proofs.Common.{◌∙◌, refl, rules}
+use Rattle.silt_server.proofs.Names.{◌∙◌, refl, rules}
 use Rattle.silt_server.proofs.Sets.{as_many, each_none}
 use Rattle.silt_server.proofs.serve_set.SetServer.serve_named.Goals as goal
 

@@ -1,5 +1,4 @@
-use Rattle.std.proofs.Common.{inl, inr, map}
-use Rattle.silt_wire.proofs.Statuses.{status_told, told_weaker}
+use Rattle.silt_server.proofs.Names.{inl, inr, map, status_told, told_weaker}
 use Rattle.silt_server.proofs.Serving.{breaks_behind}
 use Rattle.silt_server.proofs.Sets.{some_served_written}
 use Rattle.silt_server.proofs.serve_set.SetServer.serve_shards.Goals as goal

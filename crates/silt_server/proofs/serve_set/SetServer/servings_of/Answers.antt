@@ -1,4 +1,4 @@
-use Rattle.std.proofs.Common.{rules}
+use Rattle.silt_server.proofs.Names.{rules}
 use Rattle.silt_server.proofs.serve_set.SetServer.servings_of.Goals as goal
 
 pub loop-shard-init : goal.loop-shard-init

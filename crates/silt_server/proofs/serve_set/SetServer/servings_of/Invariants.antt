@@ -1,4 +1,4 @@
-use Rattle.std.proofs.Common.{◌≡◌, ◌≤◌, length, vec_capacity, vec_len}
+use Rattle.silt_server.proofs.Names.{◌≡◌, ◌≤◌, length, vec_capacity, vec_len}
 use Rattle.silt_server.proofs.serve_set.SetServer.servings_of.Given as goal
 
 -- each shard so far is among those that are served, and there is room for the others

@@ -1,8 +1,4 @@
-use Rattle.std.proofs.Common.{◌≡◌, ap, arith, length, rules, subst, sym}
-use Rattle.std.specs.Prelude.{All, vec_len}
-use Rattle.std.specs.Vec.Iter.{into_iter_items}
-use Rattle.std.proofs.lemmas.List.Elements.{All-rest}
-use Rattle.silt_server.specs.Serving.{IsNamedFor}
+use Rattle.silt_server.proofs.Names.{◌≡◌, ap, arith, length, rules, subst, sym, All, vec_len, into_iter_items, All-rest, IsNamedFor}
 use Rattle.silt_server.proofs.serve_set.Shards+D+Anchored+Count+N+N.new.Goals as goal
 
 pub loop-store-init : goal.loop-store-init

@@ -1,7 +1,4 @@
-use Rattle.std.proofs.Common.{◌≡◌, ◌≤◌, ◌+◌, length}
-use Rattle.std.specs.Prelude.{All, vec_capacity, vec_len}
-use Rattle.std.specs.Vec.Iter.{into_iter_items}
-use Rattle.silt_server.specs.Serving.{IsNamedFor}
+use Rattle.silt_server.proofs.Names.{◌≡◌, ◌≤◌, ◌+◌, length, All, vec_capacity, vec_len, into_iter_items, IsNamedFor}
 use Rattle.silt_server.proofs.serve_set.Shards+D+Anchored+Count+N+N.new.Given as goal
 
 -- each store so far has its shard, and there is room for the others, which have their names

@@ -1,4 +1,4 @@
-use Rattle.std.proofs.Common.{◌≡◌, ◌≤◌, length, true, vec_capacity, vec_len, All}
+use Rattle.silt_server.proofs.Names.{◌≡◌, ◌≤◌, length, true, vec_capacity, vec_len, All}
 use Rattle.silt_server.proofs.serving_set.ServingSet+Serving+Shared+D+T+N+Job+D+T+N+N+G+R.sessions.Given as goal
 
 -- each shard so far has its session, and there is room for the others

@@ -1,4 +1,4 @@
-use Rattle.std.proofs.Common.{◌≤◌}
+use Rattle.silt_server.proofs.Names.{◌≤◌}
 use Rattle.silt_server.proofs.admission.fn.accept_clients.scope.Given as goal
 
 -- no more sessions are counted than connections were accepted

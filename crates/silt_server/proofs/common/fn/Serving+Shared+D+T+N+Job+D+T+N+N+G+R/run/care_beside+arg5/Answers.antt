@@ -1,5 +1,4 @@
-use denote.Param.Send.{sendable}
-use Rattle.std.proofs.Crossing.{crosses}
+use Rattle.silt_server.proofs.Names.{sendable, crosses}
 use Rattle.silt_server.proofs.common.fn.Serving+Shared+D+T+N+Job+D+T+N+N+G+R.run.care_beside+arg5.Goals as goal
 
 pub run_crew-requires-send-D : goal.run_crew-requires-send-D
