@@ -1,18 +1,12 @@
 -- What is found in the sorted entries, and how many there are.
 use Rattle.silt_recovery.proofs.Common.{◌≡◌, ℕ, Bool, true, false, IsTrue, List, [], ◌∷◌, length, Option, Some, Ok, refl, ap, ◌∙◌, arith, sum_by-cons, Content, Shape, StoredRow, put_count}
 use Rattle.silt_recovery.proofs.Common.{digest_findings, entries_digest, image_verdict, image_digests, image_stores, SortedState, finding_if, Finding, Place, Body, Digests, HasFirstEntry}
-use Rattle.silt_recovery.proofs.Common.{AreSoundHashes, AreSoundLogs}
-use Rattle.std.proofs.Common.{suc, ◌==◌, cond, slice_get}
-use Rattle.silt_image.specs.Meaning.{said_sorted}
+use Rattle.silt_recovery.proofs.Common.{AreSoundHashes, AreSoundLogs, suc, ◌==◌, cond, slice_get, said_sorted, HasDigest, sorted_rows, Sorted, SortedDigest, first_entry_law, AreSoundEntries}
 use Rattle.silt_image.specs.Stores.{stores_named}
 use Rattle.silt_sorted_store.specs.Findings.{sorted_findings}
 use Rattle.silt_sorted_store.specs.Rebuild.{IsFirstOutOfOrder}
-use Rattle.silt_sorted_store.specs.State.{HasDigest, sorted_rows}
 use Rattle.silt_event.specs.declared.damage.Finding.TheVariants.{Damaged}
-use Rattle.silt_event.specs.declared.place.Place.TheVariants.{Sorted, SortedDigest}
-use Rattle.silt_image.proofs.Search.{first_entry_law}
 use Rattle.silt_sorted_store.proofs.Entries.{entries_law}
-use Rattle.silt_recovery.specs.Entries.{AreSoundEntries}
 use Rattle.silt_recovery.proofs.Firsts.{first_of_front}
 
 -- the first finding in the entries that the current record names is the verdict, if nothing is found in the logs and the hash stores

@@ -1,29 +1,18 @@
 -- What an examination holds, or why it is refused.
-use Rattle.silt_recovery.proofs.Common.{◌≡◌, ◌≤◌, ◌<◌, ◌+◌, ℕ, true, IsTrue, List, [], ◌∷◌, ◌++◌, All, length, sum_by, Option, Ok, refl, ap, sym, ◌∙◌, subst, arith, sum_by-cons, Content}
-use Rattle.silt_recovery.proofs.Common.{Rests, size, Shape, InLimits, device_size, HashState, IsHashStore, put_count, Stores, image_digests, image_stores, Finding, log_rows, LogStoreState}
-use Rattle.silt_recovery.proofs.Common.{Body, Digests, SortedState, HasFirstEntry, AreReadHashes, AreSoundHashes, HasFirstSlot, AreReadLogs, AreSoundLogs, HasFirstFinding, IsReadLog}
-use Rattle.silt_recovery.proofs.Common.{put_rows, Holds, IsFound}
-use Rattle.std.proofs.Common.{flat_map, None}
-use Rattle.std.specs.List.{enumerate_from}
+use Rattle.silt_recovery.proofs.Common.{◌≡◌, ◌≤◌, ◌<◌, ◌+◌, ℕ, true, IsTrue, List, [], ◌∷◌, ◌++◌, All, length, sum_by, Option, Ok, refl, ap, sym, ◌∙◌, subst, arith, sum_by-cons, Content, Rests}
+use Rattle.silt_recovery.proofs.Common.{size, Shape, InLimits, device_size, HashState, IsHashStore, put_count, Stores, image_digests, image_stores, Finding, log_rows, LogStoreState, Body, Digests}
+use Rattle.silt_recovery.proofs.Common.{SortedState, HasFirstEntry, AreReadHashes, AreSoundHashes, HasFirstSlot, AreReadLogs, AreSoundLogs, HasFirstFinding, IsReadLog, put_rows, Holds, IsFound}
+use Rattle.silt_recovery.proofs.Common.{flat_map, None, enumerate_from, append-nil, All-cons, All-nil, All-weaker, AreDigestsOf, IsSound, charge_of, said_entry_findings, said_hash_findings}
+use Rattle.silt_recovery.proofs.Common.{Charge, charge_found_law, ManifestState, IsCurrent, HasDigest, IsHeldSorted, IsHashOf, IsSettled, sorted_named, AreSoundEntries, IsReadHash}
 use Rattle.std.proofs.lemmas.Bool.{and_parts, ltb-true}
-use Rattle.std.proofs.lemmas.List.{append-nil}
-use Rattle.std.proofs.lemmas.List.Elements.{All-cons, All-nil, All-weaker}
-use Rattle.silt_image.specs.Meaning.{AreDigestsOf, IsSound, charge_of, said_entry_findings, said_hash_findings}
 use Rattle.silt_image.specs.Stores.{stores_named}
 use Rattle.silt_event.specs.declared.damage.Finding.TheVariants.{Damaged}
-use Rattle.silt_event.specs.declared.place.Place.TheVariants.{Charge}
-use Rattle.silt_image.proofs.Search.{charge_found_law}
 use Rattle.silt_image.proofs.Sound.{none_found, said_law}
 use Rattle.silt_log_store.specs.Findings.{log_findings}
 use Rattle.silt_manifest.specs.Body.{all_below, is_well_formed}
-use Rattle.silt_manifest.specs.Standing.{ManifestState, IsCurrent}
 use Rattle.silt_manifest.proofs.SoundBodies.{sound_parts}
 use Rattle.silt_sorted_store.specs.Index.{HasIndex}
-use Rattle.silt_sorted_store.specs.State.{HasDigest, IsHeldSorted}
 use Rattle.silt_trie.specs.Marks.{MarkedCode}
-use Rattle.silt_standing.specs.State.{IsHashOf, IsSettled, sorted_named}
-use Rattle.silt_recovery.specs.Entries.{AreSoundEntries}
-use Rattle.silt_recovery.specs.Hashes.{IsReadHash}
 use Rattle.silt_recovery.proofs.EntrySearches.{entry_verdict}
 use Rattle.silt_recovery.proofs.HashSearches.{charge_of_named, known_count, rows_of_hashes, slot_verdict}
 use Rattle.silt_recovery.proofs.Searches.{found_within, log_verdict, sound_both}

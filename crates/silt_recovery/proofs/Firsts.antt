@@ -1,6 +1,5 @@
 -- The first of several findings.
-use Rattle.silt_recovery.proofs.Common.{◌≡◌, List, [], ◌∷◌, ◌++◌, Some}
-use Rattle.std.proofs.Common.{slice_get}
+use Rattle.silt_recovery.proofs.Common.{◌≡◌, List, [], ◌∷◌, ◌++◌, Some, slice_get}
 
 -- the first of a list is the first of a longer one
 pub first_of_front : {X : Type 0} (xs ys : List X) (x : X) → slice_get xs 0 ≡ Some x → slice_get (xs ++ ys) 0 ≡ Some x

@@ -1,20 +1,11 @@
 -- What formatting writes is what an opening reads.
-use Rattle.silt_recovery.proofs.Common.{◌≡◌, ◌≤◌, ◌<◌, ℕ, ◌+◌, IsTrue, List, [], ◌∷◌, ◌++◌, length, drop, false, Ok, inl, inr, ap, sym, ◌∙◌, subst, arith, Content, Torn, ChangesWithin}
-use Rattle.silt_recovery.proofs.Common.{Writes, LeavesOnly, Rests, size, Shape, InLimits, device_size, commits_at, slot_at, left_at_rest, header_bytes, header_of, entries_digest}
-use Rattle.silt_recovery.proofs.Common.{shape_found, log_rows, Digests}
-use Rattle.std.proofs.Common.{◌-◌, slice_range, take-add}
+use Rattle.silt_recovery.proofs.Common.{◌≡◌, ◌≤◌, ◌<◌, ℕ, ◌+◌, IsTrue, List, [], ◌∷◌, ◌++◌, length, drop, false, Ok, inl, inr, ap, sym, ◌∙◌, subst, arith, Content, Torn, ChangesWithin, Writes}
+use Rattle.silt_recovery.proofs.Common.{LeavesOnly, Rests, size, Shape, InLimits, device_size, commits_at, slot_at, header_bytes, header_of, entries_digest, shape_found, log_rows, Digests, ◌-◌}
+use Rattle.silt_recovery.proofs.Common.{slice_range, take-add, drop-drop, splice, StandsFor, log_rows_elsewhere, is_slot_open, IsFirst, closed_shown, closed_elsewhere, first_elsewhere, empty_law}
+use Rattle.silt_disk.proofs.Images.{left_at_rest, splice_slice, torn_splice, length-splice, torn_slice_after, shown_left, rests_leaves}
 use Rattle.std.specs.FinMap.{empty}
-use Rattle.std.proofs.lemmas.List.{drop-drop}
-use Rattle.silt_disk.specs.Disk.{splice}
-use Rattle.silt_disk.proofs.Images.{splice_slice, torn_splice, length-splice, torn_slice_after, shown_left, rests_leaves}
-use Rattle.silt_image.specs.Meaning.{StandsFor}
-use Rattle.silt_log.proofs.Elsewhere.{log_rows_elsewhere}
-use Rattle.silt_manifest.specs.Current.{is_slot_open}
-use Rattle.silt_manifest.specs.Standing.{IsFirst}
-use Rattle.silt_manifest.proofs.Laws.{closed_shown, closed_elsewhere, first_elsewhere}
 use Rattle.silt_manifest.proofs.FirstExits.{first_is_current}
 use Rattle.silt_image.proofs.Headers.{formatted_law}
-use Rattle.silt_image.proofs.Verdict.{empty_law}
 
 -- a part and the one behind it
 pub slice_join : (xs : List ℕ) (a b c : ℕ) → a ≤ b → b ≤ c → slice_range xs a c ≡ slice_range xs a b ++ slice_range xs b c

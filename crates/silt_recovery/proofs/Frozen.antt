@@ -1,10 +1,7 @@
 -- The logs so far, and one more.
-use Rattle.silt_recovery.proofs.Common.{◌≡◌, ◌<◌, ℕ, ◌+◌, IsTrue, List, [], ◌∷◌, ◌++◌, length, take, drop, get_or, ap, sym, ◌∙◌, arith, map-append, Content, Shape, put_count, Finding}
-use Rattle.silt_recovery.proofs.Common.{log_rows, LogStoreState, region_of, AreReadLogs, AreSoundLogs, HasFirstFinding, IsReadLog, put_rows}
-use Rattle.std.proofs.Common.{append_assoc}
-use Rattle.std.proofs.lemmas.List.{drop_more, take-append-drop, take_more}
-use Rattle.std.proofs.lemmas.List.Elements.{All-push}
-use Rattle.std.proofs.lemmas.List.Sums.{sum_by_push}
+use Rattle.silt_recovery.proofs.Common.{◌≡◌, ◌<◌, ℕ, ◌+◌, IsTrue, List, [], ◌∷◌, ◌++◌, length, take, drop, get_or, ap, sym, ◌∙◌, arith, map-append, Content, Shape, put_count, Finding, log_rows}
+use Rattle.silt_recovery.proofs.Common.{LogStoreState, region_of, AreReadLogs, AreSoundLogs, HasFirstFinding, IsReadLog, put_rows, append_assoc, drop_more, take-append-drop, take_more, All-push}
+use Rattle.silt_recovery.proofs.Common.{sum_by_push}
 use Rattle.silt_recovery.proofs.Searches.{found_within, sound_both}
 
 -- one log more

@@ -1,23 +1,14 @@
 -- What a crash leaves of a formatting.
 use Rattle.silt_recovery.proofs.Common.{◌≡◌, ◌≤◌, ◌<◌, ℕ, ◌+◌, false, IsTrue, List, [], ◌∷◌, length, get_or, Ok, Err, Some, inl, inr, ap, sym, ◌∙◌, subst, arith, Content, Torn, Writes}
-use Rattle.silt_recovery.proofs.Common.{ChangesWithin, LeavesOnly, Rests, size, Shape, InLimits, device_size, slot_at, left_at_rest, header_bytes, header_of, entries_digest, image_verdict}
-use Rattle.silt_recovery.proofs.Common.{log_rows, Digests}
-use Rattle.std.proofs.Common.{slice_range, slice_index, Result}
+use Rattle.silt_recovery.proofs.Common.{ChangesWithin, LeavesOnly, Rests, size, Shape, InLimits, device_size, slot_at, header_bytes, header_of, entries_digest, image_verdict, log_rows, Digests}
+use Rattle.silt_recovery.proofs.Common.{slice_range, slice_index, Result, get_or-take, Tears, is_formatted, no_stores_law, log_rows_elsewhere, IsFirst, first_elsewhere, not_formatted}
+use Rattle.silt_disk.proofs.Images.{left_at_rest, sized_leaves, splice_slice, torn_refl, torn_slice_after, within_leaves, write_within}
 use Rattle.std.specs.Result.{OnErr}
-use Rattle.std.proofs.lemmas.List.{get_or-take}
-use Rattle.silt_disk.specs.Disk.{Tears}
-use Rattle.silt_disk.proofs.Images.{sized_leaves, splice_slice, torn_refl, torn_slice_after, within_leaves, write_within}
 use Rattle.silt_frame.specs.Commit.{is_open}
-use Rattle.silt_disk.specs.Header.{is_formatted}
 use Rattle.silt_image.specs.Stores.{image_stores}
 use Rattle.silt_event.specs.declared.damage.Finding.TheVariants.{NotFormatted}
-use Rattle.silt_image.proofs.Verdict.{no_stores_law}
-use Rattle.silt_log.proofs.Elsewhere.{log_rows_elsewhere}
-use Rattle.silt_manifest.specs.Standing.{IsFirst}
-use Rattle.silt_manifest.proofs.Laws.{first_elsewhere}
 use Rattle.silt_recovery.specs.Format.{HasHeaderOrNone, IsCommitClosed, IsHalfFormatted}
 use Rattle.silt_recovery.proofs.Formats.{fresh_store}
-use Rattle.silt_image.proofs.HeaderExits.{not_formatted}
 
 -- ---- the header's commit byte
 

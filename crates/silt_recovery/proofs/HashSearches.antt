@@ -1,23 +1,14 @@
 -- Findings in hash stores that are read one after the other.
-use Rattle.silt_recovery.proofs.Common.{◌≡◌, ◌<◌, ℕ, ◌+◌, Bool, true, false, IsTrue, List, [], ◌∷◌, ◌++◌, length, map, take, drop, get_or, sum_by, Option, Some, Ok, refl, ap, sym, ◌∙◌}
-use Rattle.silt_recovery.proofs.Common.{subst, arith, map-append, sum_by-cons, Content, Shape, HashState, IsHashStore, digest_findings, image_verdict, put_count, image_digests, image_stores}
-use Rattle.silt_recovery.proofs.Common.{Finding, Place, finding_if, Body, Digests, AreReadHashes, AreSoundHashes, HasFirstSlot, AreSoundLogs, put_rows}
-use Rattle.std.proofs.Common.{length-take-le}
-use Rattle.std.proofs.lemmas.List.{drop_more, length-map, take-append-drop, take_more}
-use Rattle.std.proofs.lemmas.List.Elements.{All-push}
-use Rattle.std.proofs.lemmas.List.Sums.{sum_by_push}
-use Rattle.std.proofs.lemmas.Grind.{flat_map-append}
+use Rattle.silt_recovery.proofs.Common.{◌≡◌, ◌<◌, ℕ, ◌+◌, Bool, true, false, IsTrue, List, [], ◌∷◌, ◌++◌, length, map, take, drop, get_or, sum_by, Option, Some, Ok, refl, ap, sym, ◌∙◌, subst}
+use Rattle.silt_recovery.proofs.Common.{arith, map-append, sum_by-cons, Content, Shape, HashState, IsHashStore, digest_findings, image_verdict, put_count, image_digests, image_stores, Finding}
+use Rattle.silt_recovery.proofs.Common.{Place, finding_if, Body, Digests, AreReadHashes, AreSoundHashes, HasFirstSlot, AreSoundLogs, put_rows, length-take-le, drop_more, length-map}
+use Rattle.silt_recovery.proofs.Common.{take-append-drop, take_more, All-push, sum_by_push, flat_map-append, charge_of, part_digest, said_hash, known_rows, oldest_first, Part, Hash, HashDigest}
+use Rattle.silt_recovery.proofs.Common.{count_law, first_slot_law, places_append, hash_region_of, HasFirstInRegion, IsReadHash, region_findings, region_puts, region_rows}
 use Rattle.silt_hash_store.specs.Rebuild.{IsFirstUnsound}
-use Rattle.silt_image.specs.Meaning.{charge_of, part_digest, rows_of, said_hash}
-use Rattle.silt_log.specs.Parts.{known_rows, oldest_first, Part}
+use Rattle.silt_image.specs.Meaning.{rows_of}
 use Rattle.silt_hash_store.specs.Slots.{hash_part}
 use Rattle.silt_image.specs.Stores.{stores_named}
 use Rattle.silt_event.specs.declared.damage.Finding.TheVariants.{Damaged}
-use Rattle.silt_event.specs.declared.place.Place.TheVariants.{Hash, HashDigest}
-use Rattle.silt_event.proofs.Rows.{count_law}
-use Rattle.silt_image.proofs.Search.{first_slot_law, places_append}
-use Rattle.silt_standing.specs.State.{hash_region_of}
-use Rattle.silt_recovery.specs.Hashes.{HasFirstInRegion, IsReadHash, region_findings, region_puts, region_rows}
 use Rattle.silt_recovery.proofs.EntrySearches.{charge_of_entries}
 use Rattle.silt_recovery.proofs.Firsts.{first_of_front}
 use Rattle.silt_recovery.proofs.Searches.{charge_of_logs}

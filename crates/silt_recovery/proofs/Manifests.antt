@@ -1,12 +1,8 @@
 -- What a read of the manifest shows of the stores.
-use Rattle.silt_recovery.proofs.Common.{◌≡◌, ℕ, List, length, Some, Ok, Err, refl, ap, sym, ◌∙◌, Shape, header_of, image_digests, shape_found, Finding, IsFound}
-use Rattle.std.proofs.Common.{Result}
-use Rattle.silt_image.specs.Stores.{damage_finding, image_stores, stores_named, stores_of_current, stores_shaped}
+use Rattle.silt_recovery.proofs.Common.{◌≡◌, ℕ, List, length, Some, Ok, Err, refl, ap, sym, ◌∙◌, Shape, header_of, image_digests, shape_found, Finding, IsFound, Result, damage_finding}
+use Rattle.silt_recovery.proofs.Common.{stores_of_current, stores_shaped, no_stores_law, IsDamaged, manifest_found, where_found, IsCurrentIn, ManifestState, current_record}
+use Rattle.silt_image.specs.Stores.{image_stores, stores_named}
 use Rattle.silt_image.proofs.Named.{digests_law, stores_law}
-use Rattle.silt_image.proofs.Verdict.{no_stores_law}
-use Rattle.silt_manifest.specs.Faults.{IsDamaged}
-use Rattle.silt_manifest.specs.Current.{manifest_found, where_found}
-use Rattle.silt_manifest.specs.Standing.{IsCurrentIn, ManifestState, current_record}
 use Rattle.silt_manifest.specs.declared.slot.SlotRecord.{SlotRecord}
 use Rattle.silt_manifest.specs.declared.slot.Damage.{Damage}
 

@@ -1,10 +1,8 @@
 -- How many writes and syncs an opening makes.
-use Rattle.silt_recovery.proofs.Common.{◌≡◌, ◌≤◌, ℕ, ◌+◌, Bool, true, false, IsTrue, refl, arith, Content, EngineState, Holds, OpenError}
-use Rattle.std.proofs.Common.{cond}
-use Rattle.silt_disk.specs.Disk.{Makes, MakesAtMost, Settles}
+use Rattle.silt_recovery.proofs.Common.{◌≡◌, ◌≤◌, ℕ, ◌+◌, Bool, true, false, IsTrue, refl, arith, Content, EngineState, Holds, OpenError, cond, Makes, MakesAtMost, Settles, CostsRefusal}
 use Rattle.silt_disk.proofs.Costs.{made_both, most_both, most_made}
 use Rattle.silt_image.specs.Stores.{stores_named}
-use Rattle.silt_recovery.specs.Opening.{CostsOpening, CostsRefusal, has_stale_log}
+use Rattle.silt_recovery.specs.Opening.{CostsOpening, has_stale_log}
 use Rattle.silt_recovery.specs.declared.fault.OpenError.TheVariants.{NotFormatted, Damaged, Crowded, Device, NoMemory}
 
 -- the active log was found as it was shown

@@ -1,8 +1,7 @@
 -- Refusals in other words.
-use Rattle.silt_recovery.proofs.Common.{arith, Finding, IsRefusedLook, OpenError}
-use Rattle.silt_event.specs.declared.damage.Finding.TheVariants as finding
-use Rattle.silt_recovery.specs.Refusals.{refusal_of}
+use Rattle.silt_recovery.proofs.Common.{arith, Finding, IsRefusedLook, OpenError, refusal_of}
 use Rattle.silt_recovery.specs.declared.fault.OpenError.TheVariants.{NotFormatted, Damaged, Crowded}
+use Rattle.silt_event.specs.declared.damage.Finding.TheVariants as finding
 
 -- a look is refused for a finding in other words, and by the same faults
 pub refused_weaker : {F : Type 0} (P Q : Finding → Type 0) (W : F → Type 0) (error : OpenError F) → ((found : Finding) → P found → Q found) → IsRefusedLook P W error → IsRefusedLook Q W error

@@ -1,16 +1,12 @@
 -- The numbers of what is held of a device.
-use Rattle.silt_recovery.proofs.Common.{◌≡◌, ◌≤◌, ℕ, ◌+◌, IsTrue, List, [], ◌∷◌, All, length, map, Option, refl, ap, sym, ◌∙◌, arith, sum_by, true, sum_by-cons, Content, Shape, InLimits}
-use Rattle.silt_recovery.proofs.Common.{log_part, Stores, Digests, log_rows, LogStoreState, Body, EngineState, region_of, IsReadLog, Holds}
-use Rattle.std.proofs.lemmas.List.{length-map}
-use Rattle.std.proofs.lemmas.List.Elements.{All-head, All-tail}
-use Rattle.silt_log.specs.Parts.{Part}
+use Rattle.silt_recovery.proofs.Common.{◌≡◌, ◌≤◌, ℕ, ◌+◌, IsTrue, List, [], ◌∷◌, All, length, map, Option, refl, ap, sym, ◌∙◌, arith, sum_by, true, sum_by-cons, Content, Shape, InLimits, log_part}
+use Rattle.silt_recovery.proofs.Common.{Stores, Digests, log_rows, LogStoreState, Body, EngineState, region_of, IsReadLog, Holds, length-map, All-head, All-tail, Part, layout_of, CountsHashRows}
+use Rattle.silt_recovery.proofs.Common.{IsReported}
 use Rattle.silt_image.specs.Stores.{stores_named}
 use Rattle.silt_event.specs.declared.report.Layout.{Layout}
 use Rattle.silt_event.specs.declared.report.Report.{Report}
-use Rattle.silt_image.specs.Meaning.{layout_of}
 use Rattle.silt_manifest.specs.Body.{is_well_formed}
 use Rattle.silt_standing.specs.Standing.{shown_stores}
-use Rattle.silt_recovery.specs.Opening.{CountsHashRows, IsReported}
 use Rattle.silt_recovery.proofs.Examinations.{named_regions}
 use Rattle.silt_recovery.proofs.Shown.{held_good}
 use Rattle.silt_recovery.proofs.Takings.{row_count}

@@ -1,22 +1,12 @@
 -- Findings in logs that are read one after the other.
-use Rattle.silt_recovery.proofs.Common.{◌≡◌, ◌<◌, ℕ, ◌+◌, true, false, List, [], ◌∷◌, ◌++◌, length, map, take, get_or, Some, Ok, refl, ap, sym, ◌∙◌, arith, map-append, sum_by-cons, Content}
-use Rattle.silt_recovery.proofs.Common.{Shape, image_verdict, log_part, put_count, StoredRow, image_stores, Finding, log_rows, LogStoreState, Body, AreSoundLogs, HasFirstFinding, put_rows}
-use Rattle.std.proofs.Common.{append_assoc}
-use Rattle.std.specs.Option.{is_some}
-use Rattle.std.specs.List.{list_all}
-use Rattle.std.proofs.lemmas.List.{get_or-map}
-use Rattle.std.proofs.lemmas.Grind.{flat_map-append}
+use Rattle.silt_recovery.proofs.Common.{◌≡◌, ◌<◌, ℕ, ◌+◌, true, false, List, [], ◌∷◌, ◌++◌, length, map, take, get_or, Some, Ok, refl, ap, sym, ◌∙◌, arith, map-append, sum_by-cons, Content, Shape}
+use Rattle.silt_recovery.proofs.Common.{image_verdict, log_part, put_count, StoredRow, image_stores, Finding, log_rows, LogStoreState, Body, AreSoundLogs, HasFirstFinding, put_rows, append_assoc}
+use Rattle.silt_recovery.proofs.Common.{is_some, list_all, get_or-map, flat_map-append, FirstFinding, oldest_first, part_rows, keys_of, has_known_kind, Log, count_law, first_finding_law}
 use Rattle.std.proofs.lemmas.Option.{slice_get-get_or}
 use Rattle.silt_cuckoo.specs.Index.{index_of_keys}
-use Rattle.silt_image.specs.Laws.{FirstFinding}
 use Rattle.silt_log_store.specs.Findings.{fits_table}
-use Rattle.silt_log.specs.Parts.{oldest_first, part_rows}
-use Rattle.silt_frame.specs.Rows.{keys_of, has_known_kind}
 use Rattle.silt_image.specs.Stores.{stores_named}
 use Rattle.silt_event.specs.declared.damage.Finding.TheVariants.{Damaged, Crowded}
-use Rattle.silt_event.specs.declared.place.Place.TheVariants.{Log}
-use Rattle.silt_event.proofs.Rows.{count_law}
-use Rattle.silt_image.proofs.Search.{first_finding_law}
 use Rattle.silt_log_store.proofs.Findings.{log_sound_law}
 use Rattle.silt_log_store.specs.Rebuild.{IsFirstCrowded, IsFirstDamaged, IsRebuilt, has_known_kind_at}
 use Rattle.silt_cuckoo.specs.Slots.{Slots}

@@ -1,11 +1,7 @@
 -- What a device shows in which nothing is found.
-use Rattle.silt_recovery.proofs.Common.{◌≡◌, IsTrue, ap, sym, arith, Content, EngineState, IsReadLog, Holds}
-use Rattle.std.proofs.Common.{slice_index_or}
-use Rattle.silt_image.specs.Meaning.{IsGood, image_map}
-use Rattle.silt_image.proofs.Verdict.{rows_law, sound_law}
-use Rattle.silt_log.specs.Rows.{first_rows, log_rows}
-use Rattle.silt_log.specs.State.{settled_rows}
-use Rattle.silt_log.proofs.Waiting.{none_waiting}
+use Rattle.silt_recovery.proofs.Common.{◌≡◌, IsTrue, ap, sym, arith, Content, EngineState, IsReadLog, Holds, slice_index_or, IsGood, rows_law, sound_law, first_rows, settled_rows, none_waiting}
+use Rattle.silt_image.specs.Meaning.{image_map}
+use Rattle.silt_log.specs.Rows.{log_rows}
 use Rattle.silt_standing.specs.Standing.{ShowsStores, base_map, current_map}
 
 module _ (content : Content) (s : EngineState) (holds : Holds content s) where

@@ -1,39 +1,27 @@
 -- What holds at the exits of an opening.
 use Rattle.silt_recovery.proofs.Common.{◌≡◌, ◌≤◌, ◌<◌, ℕ, ◌+◌, ◌*◌, inl, inr, false, IsTrue, List, [], ◌∷◌, ◌++◌, All, length, map, Option, Ok, refl, ap, sym, ◌∙◌, subst, arith, Content}
-use Rattle.silt_recovery.proofs.Common.{LeavesOnly, ChangesWithin, Torn, size, Shape, InLimits, device_size, commits_at, slot_at, left_at_rest, HashState, IsHashStore, StoredRow, put_count}
-use Rattle.silt_recovery.proofs.Common.{log_part, Stores, image_digests, image_stores, LogStoreState, Digests, SortedState, EngineState, region_of, IsReadLog, Holds, IsFound, IsRefusedLook}
-use Rattle.silt_recovery.proofs.Common.{OpenError}
-use Rattle.std.proofs.Common.{◌-◌, slice_index_or, None}
-use Rattle.std.specs.Option.{IfSome}
-use Rattle.std.proofs.lemmas.List.{append-nil}
+use Rattle.silt_recovery.proofs.Common.{LeavesOnly, ChangesWithin, Torn, size, Shape, InLimits, device_size, commits_at, slot_at, HashState, IsHashStore, StoredRow, put_count, log_part, Stores}
+use Rattle.silt_recovery.proofs.Common.{image_digests, image_stores, LogStoreState, Digests, SortedState, EngineState, region_of, IsReadLog, Holds, IsFound, IsRefusedLook, OpenError, ◌-◌}
+use Rattle.silt_recovery.proofs.Common.{slice_index_or, None, IfSome, append-nil, Settles, Stays, hash_at, log_size, row_len, shape_of, IsWhole, AreDigestsOf, IsGood, IsSound, StandsFor, rows_of}
+use Rattle.silt_recovery.proofs.Common.{with_log_rows, rows_law, stands_law, first_rows, open_count, LogState, InBounds, all_rows, waiting_rows, none_waiting, current_record_elsewhere}
+use Rattle.silt_recovery.proofs.Common.{IsCurrentIn, IsCurrent, current_record, AreWhole, IsHashOf, IsMerging, IsUnderWay, oldest_log, IsUnwritten, IsUnwrittenUnlessFailed, LeavesNoOther, TakesUp}
+use Rattle.silt_disk.proofs.Images.{left_at_rest, left_after_failed_sync, shown_left, within_wider}
 use Rattle.std.proofs.lemmas.List.FromFn.{length-map-range_with_len}
 use Rattle.std.proofs.Math.Nat.{one-le-mul}
-use Rattle.silt_disk.specs.Disk.{Settles, Stays}
-use Rattle.silt_disk.specs.Layout.{hash_at, log_size, row_len}
-use Rattle.silt_disk.proofs.Images.{left_after_failed_sync, shown_left, within_wider}
 use Rattle.silt_disk.proofs.Regions.{next_region, up_least}
 use Rattle.silt_conversion.specs.Conversion.{ConversionState, HasWritten}
 use Rattle.silt_hash_store.proofs.Elsewhere.{hash_elsewhere}
-use Rattle.silt_disk.specs.Header.{shape_of}
-use Rattle.silt_image.specs.Laws.{IsWhole}
-use Rattle.silt_image.specs.Meaning.{AreDigestsOf, IsGood, IsSound, StandsFor, image_map, rows_of, with_log_rows}
+use Rattle.silt_image.specs.Meaning.{image_map}
 use Rattle.silt_event.specs.Rows.{map_of_rows}
 use Rattle.silt_image.specs.Stores.{stores_named}
 use Rattle.silt_image.proofs.Frame.{log_region_law}
 use Rattle.silt_image.proofs.Named.{digests_law, stores_law, whole_law}
 use Rattle.silt_image.proofs.Rows.{own_rows_law}
-use Rattle.silt_image.proofs.Verdict.{rows_law, stands_law}
-use Rattle.silt_log.specs.Rows.{first_rows, log_rows, open_count, rows_from}
-use Rattle.silt_log.specs.State.{LogState, InBounds, all_rows, waiting_rows}
-use Rattle.silt_log.proofs.Waiting.{none_waiting}
+use Rattle.silt_log.specs.Rows.{log_rows, rows_from}
 use Rattle.silt_log_store.specs.Calls.{SealsStore}
-use Rattle.silt_manifest.proofs.Laws.{current_record_elsewhere}
-use Rattle.silt_manifest.specs.Standing.{IsCurrentIn, IsCurrent, current_record}
 use Rattle.silt_merge.specs.State.{MergeState}
 use Rattle.silt_standing.specs.Standing.{HasGathered, IsDigested, IsFrozen, IsLocated, Stands, base_map, shown_stores}
 use Rattle.silt_sorted_store.proofs.Elsewhere.{digest_elsewhere, indexed_elsewhere}
-use Rattle.silt_standing.specs.State.{AreWhole, IsHashOf, IsMerging, IsUnderWay, oldest_log}
-use Rattle.silt_recovery.specs.Opening.{IsUnwritten, IsUnwrittenUnlessFailed, LeavesNoOther, TakesUp}
 use Rattle.silt_recovery.proofs.Manifests.{record_that_is_current}
 use Rattle.silt_recovery.proofs.Shown.{held_good}
 

@@ -1,8 +1,5 @@
-use Rattle.silt_recovery.proofs.Common.{◌≡◌, ◌∙◌, ℕ, [], ◌∷◌, refl, subst, arith, ChangesWithin, LeavesOnly, Writes, commits_at, log_rows}
-use Rattle.std.proofs.Common.{rules}
-use Rattle.silt_disk.specs.Disk.{Makes, MakesAtMost}
+use Rattle.silt_recovery.proofs.Common.{◌≡◌, ◌∙◌, ℕ, [], ◌∷◌, refl, subst, arith, ChangesWithin, LeavesOnly, Writes, commits_at, log_rows, rules, Makes, MakesAtMost, LogState}
 use Rattle.silt_disk.proofs.Costs.{made_both, most_both, most_made, most_more}
-use Rattle.silt_log.specs.State.{LogState}
 use Rattle.silt_recovery.proofs.Formats.{formatted, second_closed}
 use Rattle.silt_recovery.proofs.HalfFormats.{commit_closed, commit_kept, commit_kept_by_write, left_at_last, left_but_for_commit, left_closed, on_err}
 use Rattle.silt_recovery.proofs.empty_store.write_store.Goals as goal

@@ -1,7 +1,4 @@
-use Rattle.silt_recovery.proofs.Common.{IsTrue, sym, ap, ◌∙◌, subst, GaveAny, IsFound, IsRefusedLook}
-use Rattle.silt_image.specs.Stores.{damage_finding}
-use Rattle.silt_manifest.specs.Faults.{IsNotRead}
-use Rattle.silt_recovery.specs.Refusals.{refusal_of}
+use Rattle.silt_recovery.proofs.Common.{IsTrue, sym, ap, ◌∙◌, subst, GaveAny, IsFound, IsRefusedLook, damage_finding, IsNotRead, refusal_of}
 use Rattle.silt_recovery.proofs.Manifests.{damage_verdict, current_digests_of, current_stores}
 use Rattle.silt_recovery.proofs.Refusals.{look_refused}
 use Rattle.silt_recovery.proofs.examination.read_manifest.Goals as goal

@@ -1,6 +1,5 @@
 use Rattle.silt_recovery.proofs.Common.{◌≡◌, ◌<◌, ◌≤◌, ◌+◌, ℕ, IsTrue, List, [], ◌∷◌, All, length, sym, ◌∙◌, subst, arith, err_from_is_err_and, GaveAny, HasFirstEntry, HasFirstSlot}
-use Rattle.silt_recovery.proofs.Common.{HasFirstFinding, IsFound}
-use Rattle.silt_manifest.specs.Standing.{current_slot}
+use Rattle.silt_recovery.proofs.Common.{HasFirstFinding, IsFound, current_slot}
 use Rattle.silt_recovery.proofs.Examinations.{HasRegions, active_refused, charge_refused, entry_refused, frozen_refused, hashed_refused, held, named_so, regions_so, rows_counted, says_so}
 use Rattle.silt_recovery.proofs.Refusals.{refused_weaker}
 use Rattle.silt_recovery.proofs.examination.read_stores.Goals as goal

@@ -1,6 +1,5 @@
-use Rattle.silt_recovery.proofs.Common.{◌+◌, ℕ, IsTrue, List, get_or, take, subst, sym, ◌∙◌, arith, take_all, err_from_is_err_and, GaveAny, HashState, bytes_said, AreReadHashes}
-use Rattle.silt_recovery.proofs.Common.{HasFirstSlot}
-use Rattle.silt_recovery.specs.Hashes.{HasFirstInRegion}
+use Rattle.silt_recovery.proofs.Common.{◌+◌, ℕ, IsTrue, List, get_or, take, subst, sym, ◌∙◌, arith, take_all, err_from_is_err_and, GaveAny, HashState, bytes_said, AreReadHashes, HasFirstSlot}
+use Rattle.silt_recovery.proofs.Common.{HasFirstInRegion}
 use Rattle.silt_recovery.proofs.HashSearches.{next_slot_finding, one_more_hash}
 use Rattle.silt_recovery.proofs.Refusals.{refused_weaker}
 use Rattle.silt_recovery.proofs.hashes.read_hashes.Goals as goal

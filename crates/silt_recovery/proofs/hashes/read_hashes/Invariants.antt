@@ -1,5 +1,4 @@
-use Rattle.silt_recovery.proofs.Common.{◌≤◌, ◌*◌, take, AreReadHashes}
-use Rattle.std.proofs.Common.{vec_capacity}
+use Rattle.silt_recovery.proofs.Common.{◌≤◌, ◌*◌, take, AreReadHashes, vec_capacity}
 use Rattle.silt_recovery.proofs.hashes.read_hashes.Given as goal
 
 -- the hash stores so far are read, and there is room for all

@@ -1,5 +1,4 @@
-use Rattle.silt_recovery.proofs.Common.{arith}
-use Rattle.silt_image.proofs.HeaderExits.{too_short}
+use Rattle.silt_recovery.proofs.Common.{arith, too_short}
 use Rattle.silt_recovery.proofs.header.read_geometry.Goals as goal
 
 pub returns-then-len-clause-cause : goal.returns-then-len-clause-cause

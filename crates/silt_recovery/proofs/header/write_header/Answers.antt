@@ -1,5 +1,4 @@
-use Rattle.silt_recovery.proofs.Common.{List, ℕ, sym, ◌∙◌, ap, subst, arith, Writes, header_bytes}
-use Rattle.silt_disk.specs.Disk.{splice}
+use Rattle.silt_recovery.proofs.Common.{List, ℕ, sym, ◌∙◌, ap, subst, arith, Writes, header_bytes, splice}
 use Rattle.silt_disk.proofs.Wrote.{wrote_err, wrote_ok, wrote_then, wrote_wider}
 use Rattle.silt_recovery.proofs.Formats.{committed}
 use Rattle.silt_recovery.proofs.HalfFormats.{header_behind, header_committed}

@@ -1,5 +1,4 @@
-use Rattle.silt_recovery.proofs.Common.{◌+◌, ℕ, IsTrue, List, [], ◌∷◌, get_or, take, subst, sym, ◌∙◌, arith, take_all, err_from_is_err_and, GaveAny, LogStoreState, AreReadLogs}
-use Rattle.silt_recovery.proofs.Common.{HasFirstFinding}
+use Rattle.silt_recovery.proofs.Common.{◌+◌, ℕ, IsTrue, List, [], ◌∷◌, get_or, take, subst, sym, ◌∙◌, arith, take_all, err_from_is_err_and, GaveAny, LogStoreState, AreReadLogs, HasFirstFinding}
 use Rattle.silt_recovery.proofs.Frozen.{next_finding, one_more_read}
 use Rattle.silt_recovery.proofs.Refusals.{refused_weaker}
 use Rattle.silt_recovery.proofs.logs.read_frozen.Goals as goal

@@ -1,5 +1,4 @@
-use Rattle.silt_recovery.proofs.Common.{◌≤◌, ◌*◌, take, AreReadLogs}
-use Rattle.std.proofs.Common.{◌^◌, vec_capacity}
+use Rattle.silt_recovery.proofs.Common.{◌≤◌, ◌*◌, take, AreReadLogs, ◌^◌, vec_capacity}
 use Rattle.silt_recovery.proofs.logs.read_frozen.Given as goal
 
 -- the logs so far are read, and there is room for all

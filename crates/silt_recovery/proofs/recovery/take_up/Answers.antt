@@ -1,5 +1,4 @@
-use Rattle.silt_recovery.proofs.Common.{GaveAny, EngineState}
-use Rattle.silt_recovery.specs.Opening.{held_stores}
+use Rattle.silt_recovery.proofs.Common.{GaveAny, EngineState, held_stores}
 use Rattle.silt_recovery.proofs.OpeningCosts.{only_synced, opened, seal_failed, sync_failed}
 use Rattle.silt_recovery.proofs.Takings.{looked_up, sealed_images, settled_image, taken_up, unsettled, unwritten}
 use Rattle.silt_recovery.proofs.recovery.take_up.Goals as goal

@@ -1,7 +1,4 @@
-use Rattle.silt_recovery.proofs.Common.{◌≤◌, List, All, length, sum_by, sym, ap, ◌∙◌, subst, LogStoreState, EngineState}
-use Rattle.silt_image.specs.Meaning.{layout_of}
-use Rattle.silt_manifest.specs.Standing.{current_slot}
-use Rattle.silt_recovery.specs.Opening.{held_stores}
+use Rattle.silt_recovery.proofs.Common.{◌≤◌, List, All, length, sum_by, sym, ap, ◌∙◌, subst, LogStoreState, EngineState, layout_of, current_slot, held_stores}
 use Rattle.silt_recovery.proofs.Reports.{few_frozen, few_rows, reported_so, used_rows}
 use Rattle.silt_recovery.proofs.report.report_of.Goals as goal
 

@@ -1,5 +1,4 @@
-use Rattle.silt_recovery.proofs.Common.{◌≤◌, ℕ, ◌+◌, List, take, sum_by, sym, ap, ◌∙◌, subst, arith, take_all, LogStoreState}
-use Rattle.std.proofs.lemmas.List.Sums.{sum_by_more}
+use Rattle.silt_recovery.proofs.Common.{◌≤◌, ℕ, ◌+◌, List, take, sum_by, sym, ap, ◌∙◌, subst, arith, take_all, LogStoreState, sum_by_more}
 use Rattle.silt_recovery.proofs.Reports.{used_rows}
 use Rattle.silt_recovery.proofs.report.row_count.Goals as goal
 
