@@ -1,29 +1,22 @@
 -- Which bytes of an image count, and what a change leaves of its stores.
 use Rattle.silt_image.proofs.Common.{◌≢◌, zero, suc, ◌+◌, ◌%◌, ◌≤◌, ◌<◌, ◌⊎◌, ◌==◌, inl, inr, true, false, slice_range, sym, ap, ◌∙◌, arith, list_any, range_with_len, and_parts, or_parts, eq-eqb}
-use Rattle.silt_image.proofs.Common.{ne_eqb, length-between, Shape, device_size, StoredRow, is_well_formed, manifest_found, open_record, Body, SlotRecord, Damage, header_of, header_shape}
-use Rattle.silt_image.proofs.Common.{log_part, Stores, stores_of_current, stores_shaped, with_part_rows, HasStores, Finding}
-use Rattle.std.proofs.Common.{◌≡◌, ℕ, ◌*◌, List, [], ◌∷◌, length, map, Contains, Result, Ok, Err, refl}
-use Rattle.std.specs.List.{prefix_len}
-use Rattle.std.proofs.lemmas.Bool.{ltb-true, eqb-false, cases_eq, cases_order}
-use Rattle.std.proofs.lemmas.List.{ext_get_or}
-use Rattle.std.proofs.lemmas.List.Edits.{get_or-between}
+use Rattle.silt_image.proofs.Common.{ne_eqb, length-between, Shape, device_size, StoredRow, is_well_formed, Body, SlotRecord, Damage, header_of, header_shape, log_part, Stores, stores_of_current}
+use Rattle.silt_image.proofs.Common.{stores_shaped, Finding, ◌≡◌, ℕ, ◌*◌, List, [], ◌∷◌, length, map, Contains, Result, Ok, Err, refl, prefix_len, ltb-true, eqb-false, cases_eq, cases_order}
+use Rattle.silt_image.proofs.Common.{ext_get_or, get_or-between, row_len, entry_len, slot_at, log_size, hash_size, sorted_size, commits_at, bodies_at, hash_at, sorted_at, next_region, up_least}
+use Rattle.silt_image.proofs.Common.{row_of, entry_row, all_below, shape_found}
+use Rattle.silt_manifest.specs.Current.{manifest_found, open_record, record_behind}
+use Rattle.silt_image.specs.Meaning.{with_part_rows, image_charge, image_fits, image_map, image_rows, image_stands, image_verdict, with_log_rows, with_new_log}
+use Rattle.silt_image.specs.Laws.{HasStores, Agree, FrameLaw, FreeHashLaw, FreeSortedLaw, FreezeLaw, FreezesActive, LogRegionLaw, ManifestLaw, MeaningLaw, SameRegions, SameWithin}
 use Rattle.silt_disk.specs.Disk.{Torn}
-use Rattle.silt_disk.specs.Layout.{row_len, entry_len, slot_at, log_size, hash_size, sorted_size, commits_at, bodies_at, hash_at, sorted_at}
-use Rattle.silt_disk.proofs.Regions.{next_region, up_least}
 use Rattle.silt_disk.proofs.Images.{torn_slice_before}
 use Rattle.silt_frame.specs.Commit.{is_open}
 use Rattle.silt_log.specs.Rows.{body_row, commit_bytes, log_rows, open_count, row_at, rows_from}
-use Rattle.silt_frame.specs.Rows.{row_of, entry_row}
 use Rattle.silt_log.proofs.Bodies.{map_range_same, body_before}
 use Rattle.silt_log.proofs.Counts.{count_most}
-use Rattle.silt_manifest.specs.Body.{all_below}
-use Rattle.silt_manifest.specs.Current.{record_behind}
 use Rattle.silt_manifest.proofs.SoundBodies.{sound_parts}
-use Rattle.silt_image.specs.Stores.{image_digests, image_stores, shape_found, stores_named}
+use Rattle.silt_image.specs.Stores.{image_digests, image_stores, stores_named}
 use Rattle.silt_hash_store.specs.Slots.{hash_part, hash_rows}
 use Rattle.silt_sorted_store.specs.State.{sorted_rows}
-use Rattle.silt_image.specs.Meaning.{image_charge, image_fits, image_map, image_rows, image_stands, image_verdict, with_log_rows, with_new_log}
-use Rattle.silt_image.specs.Laws.{Agree, FrameLaw, FreeHashLaw, FreeSortedLaw, FreezeLaw, FreezesActive, LogRegionLaw, ManifestLaw, MeaningLaw, SameRegions, SameWithin}
 use Rattle.silt_image.proofs.Named.{record_with, stores_law, current_sound, shape_parts}
 use Rattle.silt_image.proofs.Rows.{keeps_rows, takes_rows}
 

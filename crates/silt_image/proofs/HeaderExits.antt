@@ -1,9 +1,7 @@
 -- What is found in a header, at each exit of reading it.
 use Rattle.silt_image.proofs.Common.{◌==◌, ◌&&◌, Bool, ◌∙◌, and_from, ◌≢◌, ◌≤◌, ◌<◌, true, false, nat_le, sym, ap, eq-eqb, ne_eqb, Shape, InLimits, device_size, header_shape, is_formatted}
-use Rattle.silt_image.proofs.Common.{is_in_limits, NotFormatted, Damaged, Header, Length}
-use Rattle.std.proofs.Common.{refl, ◌≡◌, ℕ, List, Ok, Err}
+use Rattle.silt_image.proofs.Common.{is_in_limits, NotFormatted, Damaged, Header, Length, refl, ◌≡◌, ℕ, List, Ok, Err, le-leb, and_right, false_from_ne_true, lt-leb}
 use Rattle.silt_image.proofs.Named.{tested, limits_law}
-use Rattle.std.proofs.lemmas.Bool.{le-leb, and_right, false_from_ne_true, lt-leb}
 use Rattle.silt_image.specs.Stores.{shape_found}
 
 -- the tests, by their outcomes

@@ -1,10 +1,7 @@
 -- What is written in a header is what is read.
-use Rattle.silt_image.proofs.Common.{◌<◌, ◌≤◌, true, sym, ap, ◌∙◌, arith, append-nil, big_bytes, Shape, InLimits, device_size, header_bytes, header_shape, is_formatted}
-use Rattle.std.proofs.Common.{◌≡◌, ℕ, ◌^◌, List, [], ◌∷◌, refl, subst}
-use Rattle.byteorder.specs.Endian.{big_number}
+use Rattle.silt_image.proofs.Common.{◌<◌, ◌≤◌, true, sym, ap, ◌∙◌, arith, append-nil, big_bytes, Shape, InLimits, device_size, header_bytes, header_shape, is_formatted, ◌≡◌, ℕ, ◌^◌, List, [], ◌∷◌}
+use Rattle.silt_image.proofs.Common.{refl, subst, big_number, bucket_count_most, FitsHeader}
 use Rattle.byteorder.specs.Numbers.{big_number-reads_back}
-use Rattle.silt_disk.proofs.Regions.{bucket_count_most}
-use Rattle.silt_disk.specs.Header.{FitsHeader}
 use Rattle.silt_image.specs.Laws.{FormattedLaw, HeaderLaw}
 use Rattle.silt_image.proofs.HeaderExits.{has_shape}
 

@@ -1,16 +1,14 @@
 -- What an image with stores has.
-use Rattle.std.proofs.lemmas.Bool.{le-leb, leb-true, not-true, eqb-true}
-use Rattle.silt_image.proofs.Common.{◌⊎◌, ◌%◌, ◌≤◌, ◌==◌, Bool, true, false, not, nat_le, ◌&&◌, if◌then◌else◌, sym, ap, ◌∙◌, list_any, and_parts, length-between, bytes_eq-Decides, Shape, InLimits}
-use Rattle.silt_image.proofs.Common.{device_size, is_well_formed, manifest_found, open_record, Body, Digests, SlotRecord, Damage, header_of, header_shape, is_formatted, is_in_limits, Part}
-use Rattle.silt_image.proofs.Common.{log_part, Stores, stores_of_current, stores_shaped, HasStores, Finding, NotFormatted, Damaged, Header, Length}
-use Rattle.std.proofs.Common.{◌≡◌, ℕ, ◌||◌, List, [], ◌∷◌, length, map, Option, Some, None, Result, Ok, Err, refl, arith}
-use Rattle.silt_manifest.specs.Current.{record_found, greater_record, is_sound_record}
-use Rattle.silt_manifest.specs.declared.slot.Damage.TheVariants as damage
+use Rattle.silt_image.proofs.Common.{le-leb, leb-true, not-true, eqb-true, ◌⊎◌, ◌%◌, ◌≤◌, ◌==◌, Bool, true, false, not, nat_le, ◌&&◌, if◌then◌else◌, sym, ap, ◌∙◌, list_any, and_parts}
+use Rattle.silt_image.proofs.Common.{length-between, bytes_eq-Decides, Shape, InLimits, device_size, is_well_formed, Body, Digests, SlotRecord, Damage, header_of, header_shape, is_formatted}
+use Rattle.silt_image.proofs.Common.{is_in_limits, Part, log_part, Stores, stores_of_current, stores_shaped, Finding, NotFormatted, Damaged, Header, Length, ◌≡◌, ℕ, ◌||◌, List, [], ◌∷◌, length}
+use Rattle.silt_image.proofs.Common.{map, Option, Some, None, Result, Ok, Err, refl, arith, IsHeader, version_of, digests_found}
+use Rattle.silt_manifest.specs.Current.{manifest_found, open_record, record_found, greater_record, is_sound_record}
+use Rattle.silt_image.specs.Laws.{HasStores, DigestsLaw, LimitsLaw, StoresLaw, WholeLaw}
 use Rattle.silt_manifest.proofs.SoundBodies.{own_slot}
-use Rattle.silt_disk.specs.Header.{IsHeader, version_of}
 use Rattle.silt_disk.specs.declared.header.Version.{Version}
-use Rattle.silt_image.specs.Stores.{digests_found, image_digests, image_stores, shape_found, stores_named}
-use Rattle.silt_image.specs.Laws.{DigestsLaw, LimitsLaw, StoresLaw, WholeLaw}
+use Rattle.silt_image.specs.Stores.{image_digests, image_stores, shape_found, stores_named}
+use Rattle.silt_manifest.specs.declared.slot.Damage.TheVariants as damage
 
 -- ---- the header
 

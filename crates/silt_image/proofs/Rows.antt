@@ -1,9 +1,7 @@
 -- The rows of stores, and their map.
 use Rattle.silt_image.proofs.Common.{◌==◌, Bool, true, false, if◌then◌else◌, sym, ap, ◌∙◌, append_assoc, append-nil, list_any, or_parts, eq-eqb, StoredRow, Part, known_rows, oldest_first}
-use Rattle.silt_image.proofs.Common.{part_rows, Stores, with_part_rows}
-use Rattle.std.proofs.Common.{◌≡◌, ℕ, List, [], ◌∷◌, ◌++◌, map, refl, arith}
-use Rattle.std.proofs.lemmas.Bool.{cases_Bool}
-use Rattle.silt_image.specs.Meaning.{HasActive, rows_of, with_log_rows, with_new_log}
+use Rattle.silt_image.proofs.Common.{part_rows, Stores, ◌≡◌, ℕ, List, [], ◌∷◌, ◌++◌, map, refl, arith, cases_Bool}
+use Rattle.silt_image.specs.Meaning.{with_part_rows, HasActive, rows_of, with_log_rows, with_new_log}
 use Rattle.silt_image.specs.Laws.{AgainLaw, AppendLaw, NewActiveLaw, NewLogLaw, OwnRowsLaw, UnnamedLaw}
 
 -- ---- the logs

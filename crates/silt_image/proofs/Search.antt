@@ -1,13 +1,10 @@
 -- The first finding, as a search comes upon it.
 use Rattle.silt_image.proofs.Common.{zero, suc, ◌+◌, ◌≤◌, true, flat_map, slice_get, ap, ◌∙◌, arith, false, list_all, enumerate_from, and_parts, Shape, has_known_kind, StoredRow, Part}
-use Rattle.silt_image.proofs.Common.{image_digests, charge_findings, said_entry_findings, said_hash_findings, fits_table, row_findings, Finding, Damaged, Crowded, Charge, fits_take, nothing_both}
-use Rattle.silt_image.proofs.Common.{nothing_where_passes}
-use Rattle.std.proofs.Common.{◌≡◌, ℕ, List, [], ◌∷◌, ◌++◌, take, length, Some}
-use Rattle.std.proofs.lemmas.Bool.{lt-ltb}
-use Rattle.std.proofs.lemmas.List.{take-take}
+use Rattle.silt_image.proofs.Common.{image_digests, Finding, Damaged, Crowded, Charge, fits_take, ◌≡◌, ℕ, List, [], ◌∷◌, ◌++◌, take, length, Some, lt-ltb, take-take}
+use Rattle.silt_image.specs.Meaning.{charge_findings, said_entry_findings, said_hash_findings, store_findings}
+use Rattle.silt_log_store.specs.Findings.{fits_table, row_findings, log_findings}
+use Rattle.silt_event.proofs.Findings.{nothing_both, nothing_where_passes}
 use Rattle.std.proofs.lemmas.Grind.{flat_map-append}
-use Rattle.silt_image.specs.Meaning.{store_findings}
-use Rattle.silt_log_store.specs.Findings.{log_findings}
 use Rattle.silt_image.specs.Laws.{ChargeFoundLaw, FirstEntryLaw, FirstFinding, FirstFindingLaw, FirstSlotLaw}
 use Rattle.silt_image.proofs.Verdict.{verdict_of}
 

@@ -1,20 +1,17 @@
 -- When stores have no finding.
 use Rattle.silt_image.proofs.Common.{zero, suc, ◌+◌, ◌≤◌, Bool, nat_lt, flat_map, slice_get, sym, ap, ◌∙◌, arith, append_assoc, enumerate_from, and_from, bytes_eq-Decides, Shape, StoredRow}
-use Rattle.silt_image.proofs.Common.{put_count, Part, oldest_first, part_rows, Stores, Digests, AreDigestsOf, IsSound, charge_findings, charge_of, digest_findings, part_digest}
-use Rattle.silt_image.proofs.Common.{said_entry_findings, said_hash, said_hash_findings, with_part_rows, finding_if, hash_findings, Damaged, Place, Charge, HashDigest, nothing_first}
-use Rattle.silt_image.proofs.Common.{nothing_second, nothing_both, nothing_where_passes, fine_of, of_fine}
-use Rattle.std.proofs.Common.{inl, inr, ◌≡◌, ℕ, List, [], ◌∷◌, ◌++◌, map, take, drop, Option, Some, None, refl, subst, take-append-drop}
+use Rattle.silt_image.proofs.Common.{put_count, Part, oldest_first, part_rows, Stores, Digests, finding_if, hash_findings, Damaged, Place, Charge, HashDigest, fine_of, of_fine, inl, inr, ◌≡◌, ℕ}
+use Rattle.silt_image.proofs.Common.{List, [], ◌∷◌, ◌++◌, map, take, drop, Option, Some, None, refl, subst, take-append-drop, ltb-false, le-ltb, cases_Bool, AreFine, fine_front}
+use Rattle.silt_image.specs.Meaning.{AreDigestsOf, IsSound, charge_findings, charge_of, digest_findings, part_digest, said_entry_findings, said_hash, said_hash_findings, with_part_rows, rows_of}
+use Rattle.silt_image.specs.Meaning.{store_findings, with_log_rows, with_new_log}
+use Rattle.silt_event.proofs.Findings.{nothing_first, nothing_second, nothing_both, nothing_where_passes, passes_where_nothing}
 use Rattle.std.specs.Option.{ForSome}
-use Rattle.std.proofs.lemmas.Bool.{ltb-false, le-ltb, cases_Bool}
 use Rattle.std.proofs.lemmas.List.Folds.{list_all-append}
-use Rattle.silt_image.specs.Meaning.{rows_of, store_findings, with_log_rows, with_new_log}
 use Rattle.silt_log_store.specs.Findings.{log_findings}
 use Rattle.silt_sorted_store.specs.Findings.{sorted_findings}
 use Rattle.silt_image.specs.Laws.{BeginningLaw, ChargeLaw, FindsNothing, FrozenLaw, LogsSoundLaw, PartsLaw, SaidLaw, TakenLaw}
 use Rattle.silt_event.proofs.Rows.{count_law}
 use Rattle.silt_image.proofs.Rows.{keeps_rows, new_log_law, takes_rows}
-use Rattle.silt_event.proofs.Findings.{passes_where_nothing}
-use Rattle.silt_log_store.proofs.Findings.{AreFine, fine_front}
 
 -- ---- the digests
 

@@ -1,20 +1,20 @@
 -- When an image is good, and what it then represents.
-use Rattle.silt_image.proofs.Common.{Bool, true, false, not, nat_lt, if◌then◌else◌, flat_map, slice_get, IsTrue, sym, ap, ◌∙◌, arith, list_all, enumerate_from, range_with_len, bytes_eq, and_parts}
-use Rattle.silt_image.proofs.Common.{and_from, Shape, StoredRow, first_body, long_record, Digests, Part, Stores, image_digests, stores_of_current, stores_shaped, AreDigestsOf, IsSound}
-use Rattle.silt_image.proofs.Common.{all_logs_fit, charge_findings, charge_of, digest_findings, entries_digest, findings_of, map_where_sound, rows_found, said_entry_findings, said_hash_findings}
-use Rattle.silt_image.proofs.Common.{finding_if, fits_table, row_findings, map_of_rows, Finding, Damaged, Crowded, Place, Sorted, Charge, fine_of, fits_take, of_fine, nothing_both, nothing_first}
-use Rattle.silt_image.proofs.Common.{nothing_second}
-use Rattle.std.proofs.Common.{◌≡◌, ◌↔◌, ℕ, ◌-◌, List, [], ◌∷◌, ◌++◌, length, get_or, Option, Some, None, is_some, IsSome, Result, Ok, Err, refl}
-use Rattle.silt_frame.specs.Rows.{keys_of}
+use Rattle.silt_image.proofs.Common.{Bool, true, false, not, nat_lt, if◌then◌else◌, flat_map, slice_get, IsTrue, sym, ap, ◌∙◌, arith, list_all, enumerate_from, range_with_len, and_parts, and_from}
+use Rattle.silt_image.proofs.Common.{Shape, StoredRow, first_body, Digests, Part, Stores, image_digests, stores_of_current, stores_shaped, finding_if, map_of_rows, Finding, Damaged, Crowded}
+use Rattle.silt_image.proofs.Common.{Place, Sorted, Charge, fine_of, fits_take, of_fine, ◌≡◌, ◌↔◌, ℕ, ◌-◌, List, [], ◌∷◌, ◌++◌, length, get_or, Option, Some, None, is_some, IsSome, Result, Ok}
+use Rattle.silt_image.proofs.Common.{Err, refl, keys_of, slot_findings, fits_none}
+use Rattle.std.specs.Str.{bytes_eq}
+use Rattle.silt_manifest.specs.Digests.{long_record}
+use Rattle.silt_image.specs.Meaning.{AreDigestsOf, IsSound, all_logs_fit, charge_findings, charge_of, digest_findings, entries_digest, findings_of, map_where_sound, rows_found}
+use Rattle.silt_image.specs.Meaning.{said_entry_findings, said_hash_findings, image_fits, image_map, image_rows, image_stands, image_verdict, is_crowding, rows_of, store_findings}
+use Rattle.silt_log_store.specs.Findings.{fits_table, row_findings, log_findings}
+use Rattle.silt_event.proofs.Findings.{nothing_both, nothing_first, nothing_second}
 use Rattle.silt_image.specs.Stores.{image_stores, stores_named}
 use Rattle.silt_sorted_store.specs.State.{sorted_rows}
-use Rattle.silt_image.specs.Meaning.{image_fits, image_map, image_rows, image_stands, image_verdict, is_crowding, rows_of, store_findings}
 use Rattle.silt_sorted_store.specs.Findings.{entry_findings, is_key_below, sorted_findings}
-use Rattle.silt_log_store.specs.Findings.{log_findings}
-use Rattle.silt_hash_store.specs.Findings.{hash_findings, slot_findings}
+use Rattle.silt_hash_store.specs.Findings.{hash_findings}
 use Rattle.silt_image.specs.Laws.{EmptyLaw, NoStoresLaw, RowsLaw, SoundLaw, StandsLaw, VerdictLaw}
 use Rattle.silt_image.proofs.Named.{digests_law, whole_law}
-use Rattle.silt_log_store.proofs.Findings.{fits_none}
 use Rattle.silt_image.proofs.Sound.{finds_none, logs_sound_law, said_law}
 
 -- ---- findings

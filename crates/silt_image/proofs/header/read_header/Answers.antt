@@ -1,5 +1,4 @@
-use Rattle.silt_image.proofs.Common.{IsTrue, sym, ◌∙◌, arith}
-use Rattle.std.proofs.Common.{rules}
+use Rattle.silt_image.proofs.Common.{IsTrue, sym, ◌∙◌, arith, rules}
 use Rattle.silt_image.proofs.HeaderExits.{another_length}
 use Rattle.silt_image.proofs.header.read_header.Goals as goal
 
