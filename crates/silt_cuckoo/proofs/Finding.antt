@@ -1,11 +1,7 @@
 -- The slot of a key is the slot of a candidate.
-use Rattle.silt_cuckoo.proofs.Common.{cases_Bool, ◌≡◌, ℕ, inl, inr, Bool, true, false, List, [], ◌∷◌, length, find, get_or, Some, None, option_map, refl, sym, ap, ◌∙◌, arith}
-use Rattle.silt_cuckoo.proofs.Common.{bytes_eq-Decides, Candidate, Slots, Entry, place_at, first_bucket, second_bucket, key_pair, candidates_of, places_of, is_entry_of, slot_of_key}
-use Rattle.std.proofs.Common.{bytes_eq}
-use Rattle.std.specs.List.{AllByRecursion}
-use Rattle.std.proofs.lemmas.List.Elements.{recursion_from_All}
-use Rattle.silt_cuckoo.specs.Index.{candidate_of_key}
-use Rattle.silt_cuckoo.specs.Laws.{FindLaw}
+use Rattle.silt_cuckoo.proofs.Common.{cases_Bool, ◌≡◌, ℕ, inl, inr, Bool, true, false, List, [], ◌∷◌, length, find, get_or, Some, None, option_map, refl, sym, ap, ◌∙◌, arith, bytes_eq-Decides}
+use Rattle.silt_cuckoo.proofs.Common.{Candidate, Slots, Entry, place_at, first_bucket, second_bucket, key_pair, candidates_of, places_of, bytes_eq, AllByRecursion, recursion_from_All, FindLaw}
+use Rattle.silt_cuckoo.specs.Index.{is_entry_of, slot_of_key, candidate_of_key}
 use Rattle.silt_cuckoo.proofs.Search.{found_in_range, none_in_range, some_or_none}
 use Rattle.silt_cuckoo.proofs.Paths.{IsOn, entry_inside}
 use Rattle.silt_cuckoo.proofs.Placed.{has_entry}

@@ -1,16 +1,13 @@
 -- What the table of some keys holds: the newest place of each key.
 use Rattle.silt_cuckoo.proofs.Common.{◌≡◌, ◌≢◌, inl, inr, ℕ, ◌*◌, ◌/◌, ◌<◌, true, List, [], ◌∷◌, ◌++◌, length, fold, get_or, Some, None, option_map, refl, sym, subst, ap, ◌∙◌, arith}
-use Rattle.silt_cuckoo.proofs.Common.{length-append, length-set, bytes_eq-Decides, length-replicate, cases_eq, cases_lt, cases_Bool, Slots, Entry, IsTable, IsBucketCount, HoldsPlace}
-use Rattle.silt_cuckoo.proofs.Common.{bucket_count, empty_slots, entry_at, tag_at, place_at, placed, replaced, has_place, AddsPair, TakesSlot, first_bucket, second_bucket, key_pair, Index}
-use Rattle.silt_cuckoo.proofs.Common.{is_entry_of, slot_of_key}
-use Rattle.std.proofs.lemmas.Bool.{eq-eqb, ne_eqb, cases_order}
-use Rattle.silt_cuckoo.specs.Index.{IsNewest, Indexes, added, indexed}
-use Rattle.silt_cuckoo.specs.Laws.{IndexLaw}
+use Rattle.silt_cuckoo.proofs.Common.{length-append, length-set, bytes_eq-Decides, length-replicate, cases_eq, cases_lt, cases_Bool, Slots, Entry, IsTable, IsBucketCount, HoldsPlace, bucket_count}
+use Rattle.silt_cuckoo.proofs.Common.{empty_slots, entry_at, tag_at, place_at, placed, replaced, has_place, AddsPair, TakesSlot, first_bucket, second_bucket, key_pair, eq-eqb, ne_eqb, cases_order}
+use Rattle.silt_cuckoo.proofs.Common.{IndexLaw, get_or_append_left, get_or_push}
+use Rattle.silt_cuckoo.specs.Index.{Index, is_entry_of, slot_of_key, IsNewest, Indexes, added, indexed}
 use Rattle.silt_cuckoo.proofs.Search.{found_in_range, none_in_range, some_or_none}
 use Rattle.silt_cuckoo.proofs.Paths.{entry_inside}
 use Rattle.silt_cuckoo.proofs.Placed.{has_entry, has_place_is, is_has_place, table_pairs-held, table_law, pair_law}
 use Rattle.silt_cuckoo.proofs.Tables.{empty_table}
-use Rattle.std.proofs.lemmas.List.{get_or_append_left, get_or_push}
 use Rattle.silt_cuckoo.proofs.Replaced.{replace_law}
 use Rattle.silt_cuckoo.proofs.Places.{empty_below, held_before, holds_from_pair, pair_held}
 use Rattle.silt_cuckoo.proofs.KeyIndex.{next_index, stays_none, indexed_keys}

@@ -1,10 +1,8 @@
 -- The keys of an index, and one key more.
-use Rattle.silt_cuckoo.proofs.Common.{◌≡◌, ℕ, List, [], ◌∷◌, ◌++◌, fold, Option, Some, None, refl, append_assoc, append-nil, empty_slots, Index}
+use Rattle.silt_cuckoo.proofs.Common.{◌≡◌, ℕ, List, [], ◌∷◌, ◌++◌, fold, Option, Some, None, refl, append_assoc, append-nil, empty_slots, option_and_then, arith, PushLaw}
+use Rattle.silt_cuckoo.specs.Index.{Index, added, indexed}
 use Rattle.silt_cuckoo.proofs.Search.{some_or_none}
-use Rattle.std.proofs.Common.{option_and_then, arith}
 use Rattle.std.proofs.lemmas.List.Sums.{fold-append}
-use Rattle.silt_cuckoo.specs.Index.{added, indexed}
-use Rattle.silt_cuckoo.specs.Laws.{PushLaw}
 
 -- one more key, if there is a table
 abbrev pub next_index : ℕ → Option Index → List ℕ → Option Index

@@ -1,6 +1,5 @@
 -- A remainder by a power of two, as a mask of its bits.
-use Rattle.silt_cuckoo.proofs.Common.{◌≡◌, ℕ, ◌+◌, ◌-◌, ◌*◌, ◌%◌, ◌≤◌, ◌<◌, arith, count_ones}
-use Rattle.std.proofs.Common.{◌^◌, bit_and}
+use Rattle.silt_cuckoo.proofs.Common.{◌≡◌, ℕ, ◌+◌, ◌-◌, ◌*◌, ◌%◌, ◌≤◌, ◌<◌, arith, count_ones, ◌^◌, bit_and}
 use Rattle.std.proofs.lemmas.Nat.{and_mask, leading_top, ones_cat, zero_from_ones}
 use Rattle.std.proofs.Math.Nat.{pow-succ'}
 

@@ -1,11 +1,8 @@
 -- Candidates, slot by slot.
 use Rattle.silt_cuckoo.proofs.Common.{◌≡◌, ◌≢◌, ◌⊎◌, inl, inr, ℕ, zero, suc, ◌+◌, ◌*◌, ◌/◌, ◌<◌, ◌≤◌, ◌==◌, ◌↔◌, if◌then◌else◌, Bool, true, false, List, [], ◌∷◌, ◌++◌, Option, Some, None}
-use Rattle.silt_cuckoo.proofs.Common.{option_map, refl, sym, subst, ap, ◌∙◌, arith, append-nil, range_with_len, filter_map, cons_option, cases_eq, Candidate, Slots, Entry, PlacesApart}
-use Rattle.silt_cuckoo.proofs.Common.{entry_at, place_at, pair_of, table_pairs, match_at, matches_in, places_of}
+use Rattle.silt_cuckoo.proofs.Common.{option_map, refl, sym, subst, ap, ◌∙◌, arith, append-nil, range_with_len, filter_map, cons_option, cases_eq, Candidate, Slots, Entry, PlacesApart, entry_at}
+use Rattle.silt_cuckoo.proofs.Common.{place_at, pair_of, table_pairs, match_at, matches_in, places_of, All, AllPairs, Contains, eq-eqb, ne_eqb, All-nil, All-cons, All-append}
 use Rattle.silt_cuckoo.proofs.Search.{some_or_none}
-use Rattle.std.specs.List.{All, AllPairs, Contains}
-use Rattle.std.proofs.lemmas.Bool.{eq-eqb, ne_eqb}
-use Rattle.std.proofs.lemmas.List.Elements.{All-nil, All-cons, All-append}
 use Rattle.std.proofs.lemmas.Grind.{get_or_default_zero}
 use Rattle.silt_cuckoo.specs.Lookup.{candidates_of}
 use Rattle.silt_cuckoo.proofs.Paths.{IsOn, NoneTwice, none_twice_append, on_append, on_index, index_apart}

@@ -1,8 +1,6 @@
 -- Laws of moving entries along a path.
-use Rattle.silt_cuckoo.proofs.Common.{◌≡◌, ◌≢◌, ℕ, suc, ◌+◌, ◌<◌, ◌≤◌, List, [], ◌∷◌, length, drop, slice_set, slice_index, Option, None, refl, sym, ◌∙◌, arith, get_or-set_other}
-use Rattle.silt_cuckoo.proofs.Common.{length-drop, Slots, Entry, entry_at, moved_entry}
-use Rattle.std.proofs.Common.{get_or-drop}
-use Rattle.std.proofs.lemmas.List.{drop_more}
+use Rattle.silt_cuckoo.proofs.Common.{◌≡◌, ◌≢◌, ℕ, suc, ◌+◌, ◌<◌, ◌≤◌, List, [], ◌∷◌, length, drop, slice_set, slice_index, Option, None, refl, sym, ◌∙◌, arith, get_or-set_other, length-drop}
+use Rattle.silt_cuckoo.proofs.Common.{Slots, Entry, entry_at, moved_entry, get_or-drop, drop_more}
 use Rattle.silt_cuckoo.specs.Placing.{moved_along}
 
 -- a slot that is not behind the path's first keeps its entry

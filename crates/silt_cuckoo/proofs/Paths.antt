@@ -1,12 +1,9 @@
 -- A path that the placing rule finds leads from entry to entry, names no slot twice and stays inside the table.
-use Rattle.silt_cuckoo.proofs.Common.{◌≡◌, ◌≢◌, ◌⊎◌, inl, inr, ℕ, zero, suc, ◌+◌, ◌*◌, ◌/◌, ◌%◌, ◌<◌, ◌≤◌, true, false, ◌==◌, List, [], ◌∷◌, ◌++◌, length, slice_index, slice_set, Some, None}
-use Rattle.silt_cuckoo.proofs.Common.{◌↔◌, option_map, refl, sym, subst, ap, ◌∙◌, arith, length-append, cases_lt, get_or_past, Slots, Entry, IsTable, bucket_count, entry_at, tag_at}
-use Rattle.silt_cuckoo.proofs.Common.{can_move, ended_walk, bucket_after, plan_for, moved_along, other_bucket}
-use Rattle.std.proofs.Common.{IsNone, IfSome, is_none}
-use Rattle.std.specs.List.{list_any}
-use Rattle.std.proofs.lemmas.Bool.{eq-eqb, not-true, and_parts}
+use Rattle.silt_cuckoo.proofs.Common.{◌≡◌, ◌≢◌, ◌⊎◌, inl, inr, ℕ, zero, suc, ◌+◌, ◌*◌, ◌/◌, ◌%◌, ◌<◌, ◌≤◌, true, false, ◌==◌, List, [], ◌∷◌, ◌++◌, length, slice_index, slice_set, Some, None, ◌↔◌}
+use Rattle.silt_cuckoo.proofs.Common.{option_map, refl, sym, subst, ap, ◌∙◌, arith, length-append, cases_lt, get_or_past, Slots, Entry, IsTable, bucket_count, entry_at, tag_at, can_move}
+use Rattle.silt_cuckoo.proofs.Common.{ended_walk, bucket_after, plan_for, moved_along, other_bucket, IsNone, IfSome, is_none, list_any, eq-eqb, not-true, and_parts, PathPlan}
 use Rattle.std.proofs.Math.Bool.{or-true}
-use Rattle.silt_cuckoo.specs.Placing.{free_slot, victim, turns, shortest_walk, path_for, PathPlan, IsPlanFor, placed, put_along}
+use Rattle.silt_cuckoo.specs.Placing.{free_slot, victim, turns, shortest_walk, path_for, IsPlanFor, placed, put_along}
 use Rattle.silt_cuckoo.proofs.Search.{found_in_range, none_in_range, found_among, first_is, some_or_none}
 
 -- a slot of the path

@@ -1,11 +1,9 @@
 -- The table after a new entry was put along a path.
 use Rattle.silt_cuckoo.proofs.Common.{◌≡◌, ◌≢◌, ◌⊎◌, inl, inr, ℕ, ◌/◌, ◌<◌, ◌==◌, true, List, [], ◌∷◌, length, Option, Some, None, option_map, refl, sym, ap, ◌∙◌, arith, get_or-set_other}
 use Rattle.silt_cuckoo.proofs.Common.{get_or-set_same, length-set, cases_eq, cases_Bool, Slots, Entry, IsTable, PlacesApart, HoldsPlace, bucket_count, entry_at, place_at, moved_along}
-use Rattle.silt_cuckoo.proofs.Common.{other_bucket, pair_at, pair_of, has_place, AddsPair}
-use Rattle.std.proofs.lemmas.Bool.{eq-eqb, ne_eqb, eqb-true}
-use Rattle.silt_cuckoo.specs.Placing.{put_along, path_for, placed}
-use Rattle.silt_cuckoo.specs.Pairs.{slot_of_place, table_pairs}
-use Rattle.silt_cuckoo.specs.Laws.{PairLaw, TableLaw}
+use Rattle.silt_cuckoo.proofs.Common.{other_bucket, pair_at, pair_of, has_place, AddsPair, eq-eqb, ne_eqb, eqb-true, path_for, slot_of_place, PairLaw, TableLaw}
+use Rattle.silt_cuckoo.specs.Placing.{put_along, placed}
+use Rattle.silt_cuckoo.specs.Pairs.{table_pairs}
 use Rattle.silt_cuckoo.proofs.Search.{found_in_range, none_in_range, some_or_none}
 use Rattle.silt_cuckoo.proofs.Paths.{Displaces, IsOn, NoneTwice, path_displaces, entry_inside}
 use Rattle.silt_cuckoo.proofs.Sources.{source, source_apart, target, length_moved, pair_of-swap, place_at-moved_along, pair_at-moved_along, tag_at-moved_along}

@@ -1,8 +1,6 @@
 -- Which places are in the table, and which are not.
 use Rattle.silt_cuckoo.proofs.Common.{◌≡◌, ◌≢◌, inl, inr, ℕ, ◌+◌, ◌/◌, ◌≤◌, Some, option_map, ap, ◌∙◌, arith, cases_eq, Slots, Entry, IsTable, HoldsPlace, empty_slots, place_at, pair_of}
-use Rattle.silt_cuckoo.proofs.Common.{table_pairs, AddsPair}
-use Rattle.std.proofs.lemmas.Bool.{ne_eqb}
-use Rattle.silt_cuckoo.specs.Slots.{PlacesBelow}
+use Rattle.silt_cuckoo.proofs.Common.{table_pairs, AddsPair, ne_eqb, PlacesBelow}
 use Rattle.silt_cuckoo.proofs.Placed.{has_entry, table_pairs-held, table_pairs-not_held, cases_held}
 use Rattle.silt_cuckoo.proofs.Tables.{entry_at-free}
 

@@ -1,13 +1,11 @@
 -- The pairs of a table in which an entry takes a new place.
 use Rattle.silt_cuckoo.proofs.Common.{◌≡◌, ◌≢◌, ◌∷◌, [], inl, inr, ℕ, ◌/◌, ◌<◌, length, length-set, arith, Some, option_map, refl, sym, ap, ◌∙◌, get_or-set_other, get_or-set_same, cases_eq}
-use Rattle.silt_cuckoo.proofs.Common.{cases_Bool, Slots, Entry, IsTable, HoldsPlace, entry_at, tag_at, replaced, pair_of, has_place, TakesSlot}
+use Rattle.silt_cuckoo.proofs.Common.{cases_Bool, Slots, Entry, IsTable, HoldsPlace, entry_at, tag_at, replaced, pair_of, has_place, TakesSlot, eq-eqb, ne_eqb, ReplaceLaw}
 use Rattle.silt_cuckoo.proofs.Search.{some_or_none}
-use Rattle.std.proofs.lemmas.Bool.{eq-eqb, ne_eqb}
 use Rattle.silt_cuckoo.proofs.Placed.{Put, put_held, put_new, put_place, put_table, has_place_is, is_has_place, table_pairs-held, table_pairs-not_held, cases_held}
 use Rattle.silt_cuckoo.proofs.Tables.{slot_inside}
 use Rattle.silt_cuckoo.proofs.Paths.{IsOn}
 use Rattle.silt_cuckoo.specs.Placing.{moved_along}
-use Rattle.silt_cuckoo.specs.Laws.{ReplaceLaw}
 
 -- an entry that takes a new place is put into the only slot of a path
 put_replaced : (slots : Slots) (slot place : ℕ) → slot < length slots → Put slots (replaced slots slot place) (slot / 4) (tag_at slots slot) place slot []

@@ -1,7 +1,6 @@
 -- The first that passes, among what a function makes of numbers in a row.
-use Rattle.silt_cuckoo.proofs.Common.{◌≡◌, ℕ, zero, suc, ◌+◌, ◌<◌, ◌≤◌, Bool, true, false, find, Option, Some, None, refl, arith, inl, inr, ◌⊎◌, cases_eq, cases_Bool, range_with_len}
-use Rattle.silt_cuckoo.proofs.Common.{filter_map}
-use Rattle.std.proofs.Common.{map, slice_get}
+use Rattle.silt_cuckoo.proofs.Common.{◌≡◌, ℕ, zero, suc, ◌+◌, ◌<◌, ◌≤◌, Bool, true, false, find, Option, Some, None, refl, arith, inl, inr, ◌⊎◌, cases_eq, cases_Bool, range_with_len, filter_map}
+use Rattle.silt_cuckoo.proofs.Common.{map, slice_get}
 
 -- an option has no value or one
 pub some_or_none : {X : Type 0} (o : Option X) → (o ≡ None) ⊎ ((x : X) × (o ≡ Some x))

@@ -1,10 +1,8 @@
 -- The slot that the entry of each slot comes from, when entries move along a path.
-use Rattle.silt_cuckoo.proofs.Common.{◌≡◌, ◌≢◌, ◌⊎◌, inl, inr, ℕ, ◌/◌, ◌<◌, ◌==◌, if◌then◌else◌, min, max, List, [], ◌∷◌, length, Option, Some, None, option_map, refl, sym, subst, ap, ◌∙◌}
-use Rattle.silt_cuckoo.proofs.Common.{arith, get_or-set_other, get_or-set_same, length-set, cases_eq, Slots, Entry, IsTable, bucket_count, entry_at, tag_at, place_at, moved_entry, pair_at}
-use Rattle.silt_cuckoo.proofs.Common.{pair_of}
+use Rattle.silt_cuckoo.proofs.Common.{◌≡◌, ◌≢◌, ◌⊎◌, inl, inr, ℕ, ◌/◌, ◌<◌, ◌==◌, if◌then◌else◌, min, max, List, [], ◌∷◌, length, Option, Some, None, option_map, refl, sym, subst, ap, ◌∙◌, arith}
+use Rattle.silt_cuckoo.proofs.Common.{get_or-set_other, get_or-set_same, length-set, cases_eq, Slots, Entry, IsTable, bucket_count, entry_at, tag_at, place_at, moved_entry, pair_at, pair_of}
+use Rattle.silt_cuckoo.proofs.Common.{unwrap_or, eq-eqb, ne_eqb}
 use Rattle.silt_cuckoo.proofs.Search.{some_or_none}
-use Rattle.std.proofs.Common.{unwrap_or}
-use Rattle.std.proofs.lemmas.Bool.{eq-eqb, ne_eqb}
 use Rattle.silt_cuckoo.specs.Placing.{moved_along}
 use Rattle.silt_cuckoo.proofs.Paths.{IsOn, NoneTwice, LeadsOn, HasTag}
 

@@ -1,7 +1,6 @@
 -- What is a table.
 use Rattle.silt_cuckoo.proofs.Common.{◌≡◌, inl, inr, ℕ, ◌<◌, zero, suc, length, replicate, get_or, Option, None, refl, arith, cases_lt, length-replicate, get_or_past, Slots, Entry, IsTable}
-use Rattle.silt_cuckoo.proofs.Common.{IsBucketCount, empty_slots, entry_at}
-use Rattle.std.proofs.Common.{IsSome}
+use Rattle.silt_cuckoo.proofs.Common.{IsBucketCount, empty_slots, entry_at, IsSome}
 
 -- free slots have no entry
 pub entry_at-free : (n slot : ℕ) → get_or (replicate {A = Option Entry} n None) slot None ≡ None

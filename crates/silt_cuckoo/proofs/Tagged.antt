@@ -1,11 +1,9 @@
 -- Whether a bucket has an entry with a tag.
-use Rattle.silt_cuckoo.proofs.Common.{cases_Bool, ◌≡◌, ℕ, ◌+◌, ◌*◌, ◌≤◌, ◌<◌, ◌==◌, not, Bool, true, List, [], ◌∷◌, ◌++◌, length, get_or, Option, refl, ap, ◌∙◌, arith, append-nil}
-use Rattle.silt_cuckoo.proofs.Common.{cons_option, Candidate, Slot, has_candidates, match_at, matches_in, unpacked, unpacked_all, Slots, entry_at}
+use Rattle.silt_cuckoo.proofs.Common.{cases_Bool, ◌≡◌, ℕ, ◌+◌, ◌*◌, ◌≤◌, ◌<◌, ◌==◌, not, Bool, true, List, [], ◌∷◌, ◌++◌, length, get_or, Option, refl, ap, ◌∙◌, arith, append-nil, cons_option}
+use Rattle.silt_cuckoo.proofs.Common.{Candidate, Slot, has_candidates, match_at, matches_in, unpacked, unpacked_all, Slots, entry_at, ◌||◌, slice_range, is_some, eqb-true, ne_eqb, has_tag}
 use Rattle.silt_cuckoo.proofs.Search.{some_or_none}
-use Rattle.std.proofs.Common.{◌||◌, slice_range, is_some, eqb-true, ne_eqb}
 use Rattle.std.proofs.lemmas.List.Edits.{get_or-between}
 use Rattle.silt_cuckoo.specs.Lookup.{candidates_of}
-use Rattle.silt_cuckoo.specs.Slots.{has_tag}
 use Rattle.silt_cuckoo.proofs.Unpacking.{entry_of_stored}
 
 -- a list has an element

@@ -1,6 +1,5 @@
 -- Stored slots and what they represent.
-use Rattle.silt_cuckoo.proofs.Common.{◌≡◌, ℕ, zero, suc, ◌<◌, List, ◌∷◌, length, replicate, slice_set, get_or, None, refl, ap, Slot, entry_at, unpacked, unpacked_all}
-use Rattle.std.proofs.lemmas.List.{get_or-map, map-set}
+use Rattle.silt_cuckoo.proofs.Common.{◌≡◌, ℕ, zero, suc, ◌<◌, List, ◌∷◌, length, replicate, slice_set, get_or, None, refl, ap, Slot, entry_at, unpacked, unpacked_all, get_or-map, map-set}
 
 -- a stored slot that is free
 abbrev pub free : Slot

@@ -1,6 +1,6 @@
 -- Laws of walks.
-use Rattle.silt_cuckoo.proofs.Common.{◌≡◌, ℕ, zero, suc, ◌+◌, ◌<◌, ◌≤◌, List, [], ◌∷◌, ◌++◌, Some, None, option_map, refl, sym, ap, ◌∙◌, arith, ◌-◌, inl, inr, cases_lt, Slots, tag_at}
-use Rattle.silt_cuckoo.proofs.Common.{ended_walk, bucket_after, victim, free_slot}
+use Rattle.silt_cuckoo.proofs.Common.{◌≡◌, ℕ, zero, suc, ◌+◌, ◌<◌, ◌≤◌, List, [], ◌∷◌, ◌++◌, Some, None, option_map, refl, sym, ap, ◌∙◌, arith, ◌-◌, inl, inr, cases_lt, Slots, tag_at, ended_walk}
+use Rattle.silt_cuckoo.proofs.Common.{bucket_after, victim, free_slot}
 use Rattle.silt_cuckoo.specs.Placing.{turns, shortest_walk}
 use Rattle.silt_cuckoo.proofs.Search.{first_at, first_nowhere}
 

@@ -1,10 +1,9 @@
 -- The path leads on, names no slot twice and stays inside the table.
-use Rattle.silt_cuckoo.proofs.Common.{◌<◌, length, refl, arith, unpacked, unpacked_all}
-use Rattle.std.proofs.lemmas.List.{length-map}
+use Rattle.silt_cuckoo.proofs.Common.{◌<◌, length, refl, arith, unpacked, unpacked_all, length-map}
 use Rattle.silt_cuckoo.proofs.Paths.{plan_inside, plan_apart, plan_begins, plan_placed}
 use Rattle.silt_cuckoo.proofs.Unpacking.{unpacked_all_set}
-use Rattle.silt_cuckoo.proofs.cuckoo.put_along.Goals as goal
 use Rattle.silt_cuckoo.proofs.cuckoo.put_along.Goals.{After-new}
+use Rattle.silt_cuckoo.proofs.cuckoo.put_along.Goals as goal
 
 pub start-slot-requires : goal.start-slot-requires
 start-slot-requires c = plan_begins (unpacked_all c.args.slots.now) c.args.path.now c.args.path.now.slots c.requires.table c.requires.planned refl

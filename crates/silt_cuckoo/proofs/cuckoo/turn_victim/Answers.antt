@@ -1,6 +1,5 @@
 -- The first slot that can move is the one at which the loop stops.
-use Rattle.silt_cuckoo.proofs.Common.{◌≡◌, ℕ, ◌+◌, ◌*◌, ◌%◌, not, true, sym, ap, ◌∙◌, arith, Slots, tag_at, unpacked_all, can_move}
-use Rattle.std.proofs.lemmas.Bool.{and_from, ne_eqb}
+use Rattle.silt_cuckoo.proofs.Common.{◌≡◌, ℕ, ◌+◌, ◌*◌, ◌%◌, not, true, sym, ap, ◌∙◌, arith, Slots, tag_at, unpacked_all, can_move, and_from, ne_eqb}
 use Rattle.silt_cuckoo.specs.Placing.{victim}
 use Rattle.silt_cuckoo.proofs.Search.{found_at, found_nowhere}
 use Rattle.silt_cuckoo.proofs.cuckoo.turn_victim.Goals as goal

@@ -1,6 +1,5 @@
 -- The turns so far, the bucket after them, and that no walk has ended yet.
-use Rattle.silt_cuckoo.proofs.Common.{◌≡◌, ℕ, ◌+◌, ◌*◌, ◌≤◌, ◌<◌, length, Some, None, unpacked_all, ended_walk, bucket_after}
-use Rattle.silt_cuckoo.specs.Placing.{turns}
+use Rattle.silt_cuckoo.proofs.Common.{◌≡◌, ℕ, ◌+◌, ◌*◌, ◌≤◌, ◌<◌, length, Some, None, unpacked_all, ended_walk, bucket_after, turns}
 use Rattle.silt_cuckoo.proofs.cuckoo.walk.Given as goal
 
 abbrev pub invariant-loop-turn : goal.invariant-loop-turn

@@ -1,5 +1,4 @@
-use Rattle.silt_cuckoo.proofs.Common.{◌≡◌, ◌%◌, sym, ap, ◌∙◌, arith, count_ones}
-use Rattle.std.proofs.Common.{eqb-true}
+use Rattle.silt_cuckoo.proofs.Common.{◌≡◌, ◌%◌, sym, ap, ◌∙◌, arith, count_ones, eqb-true}
 use Rattle.silt_cuckoo.proofs.Masks.{masked}
 use Rattle.silt_cuckoo.proofs.keys.key_buckets.Goals as goal
 

@@ -1,10 +1,9 @@
 -- A table stays a table, and the new place has its pair.
-use Rattle.silt_cuckoo.proofs.Common.{◌≡◌, ◌/◌, length, Some, sym, ap, ◌∙◌, arith, IsTable, bucket_count, placed, unpacked_all, AddsPair}
+use Rattle.silt_cuckoo.proofs.Common.{◌≡◌, ◌/◌, length, Some, sym, ap, ◌∙◌, arith, IsTable, bucket_count, placed, unpacked_all, AddsPair, with_items_is}
 use Rattle.std.specs.Vec.{with_items}
-use Rattle.std.proofs.lemmas.List.{with_items_is}
 use Rattle.silt_cuckoo.proofs.Placed.{table_law, pair_law}
-use Rattle.silt_cuckoo.proofs.cuckoo.Table.apply.Goals as goal
 use Rattle.silt_cuckoo.proofs.cuckoo.Table.apply.Goals.{After-self-1}
+use Rattle.silt_cuckoo.proofs.cuckoo.Table.apply.Goals as goal
 
 -- the slots that come back
 stored : (c : After-self-1) → (with_items c.self.inside.slots c.put_along.new.slots).items ≡ c.put_along.new.slots

@@ -1,10 +1,9 @@
 -- An empty table.
-use Rattle.silt_cuckoo.proofs.Common.{◌≡◌, ◌*◌, replicate, ap, ◌∙◌, empty_slots, unpacked_all}
-use Rattle.std.proofs.Common.{rules}
+use Rattle.silt_cuckoo.proofs.Common.{◌≡◌, ◌*◌, replicate, ap, ◌∙◌, empty_slots, unpacked_all, rules}
 use Rattle.silt_cuckoo.proofs.Unpacking.{free, unpacked_all_free}
 use Rattle.silt_cuckoo.proofs.Tables.{empty_table}
-use Rattle.silt_cuckoo.proofs.cuckoo.Table.new.Goals as goal
 use Rattle.silt_cuckoo.proofs.cuckoo.Table.new.Goals.{In_ok-slots}
+use Rattle.silt_cuckoo.proofs.cuckoo.Table.new.Goals as goal
 
 -- the slots that were made are free
 made : (c : In_ok-slots) → unpacked_all c.in_ok-slots.slots.items ≡ empty_slots c.args.buckets

@@ -3,8 +3,8 @@ use Rattle.silt_cuckoo.proofs.Common.{◌≡◌, ◌/◌, length-set, slice_set,
 use Rattle.silt_cuckoo.proofs.Unpacking.{unpacked_all_set}
 use Rattle.silt_cuckoo.proofs.Replaced.{replace_law, replaced_table}
 use Rattle.silt_cuckoo.proofs.Tables.{slot_inside}
-use Rattle.silt_cuckoo.proofs.cuckoo.Table.replace.Goals as goal
 use Rattle.silt_cuckoo.proofs.cuckoo.Table.replace.Goals.{After-self-1}
+use Rattle.silt_cuckoo.proofs.cuckoo.Table.replace.Goals as goal
 
 -- the slots then
 after : (c : After-self-1) → unpacked_all (slice_set c.self.inside.slots.items c.args.slot c.new.result) ≡ replaced (unpacked_all c.self.inside.slots.items) c.args.slot c.args.place

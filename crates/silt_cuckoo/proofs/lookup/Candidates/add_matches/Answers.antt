@@ -1,9 +1,9 @@
 -- Each turn of the loop adds the match of one slot.
-use Rattle.silt_cuckoo.proofs.Common.{◌≡◌, ℕ, ◌+◌, ◌-◌, ◌*◌, ◌++◌, List, [], ◌∷◌, length, refl, sym, ap, ◌∙◌, arith, append_assoc, append-nil, length-append, range_with_len, filter_map, cons_option}
-use Rattle.silt_cuckoo.proofs.Common.{Candidate, unpacked_all, match_at}
+use Rattle.silt_cuckoo.proofs.Common.{◌≡◌, ℕ, ◌+◌, ◌-◌, ◌*◌, ◌++◌, List, [], ◌∷◌, length, refl, sym, ap, ◌∙◌, arith, append_assoc, append-nil, length-append, range_with_len, filter_map}
+use Rattle.silt_cuckoo.proofs.Common.{cons_option, Candidate, unpacked_all, match_at}
 use Rattle.silt_cuckoo.proofs.Matching.{filter_map_more}
-use Rattle.silt_cuckoo.proofs.lookup.Candidates.add_matches.Goals as goal
 use Rattle.silt_cuckoo.proofs.lookup.Candidates.add_matches.Goals.{in-Some, in_default}
+use Rattle.silt_cuckoo.proofs.lookup.Candidates.add_matches.Goals as goal
 
 pub loop-slot-preserved : goal.loop-slot-preserved
 loop-slot-preserved c =

@@ -1,6 +1,5 @@
 -- The entries of both buckets.
-use Rattle.silt_cuckoo.proofs.Common.{refl, sym, append-nil}
-use Rattle.std.proofs.Common.{eq-eqb, ne_eqb}
+use Rattle.silt_cuckoo.proofs.Common.{refl, sym, append-nil, eq-eqb, ne_eqb}
 use Rattle.silt_cuckoo.specs.Lookup.{candidates_of}
 use Rattle.silt_cuckoo.proofs.lookup.Candidates.of.Goals as goal
 
