@@ -1,19 +1,14 @@
 -- Answering lines in two parts is answering them at once, and a beginning of a part is a beginning of the whole.
-use Rattle.silt_wire.proofs.Common.{map, ◌≡◌, ◌-◌, arith, ◌+◌, ◌≤◌, take, drop, take-append-drop, flat_map, inl, inr, ℕ, false, cond, Result, Ok, Err, List, [], ◌∷◌, ◌++◌, length, refl, sym}
-use Rattle.silt_wire.proofs.Common.{ap, ◌∙◌, append_assoc, Option, Some, None, is_some, subst, append-nil, take_all, Appends, Consumes, Keeps, Event, Answer, AnswersQuery, Query, does, Tail}
-use Rattle.silt_wire.proofs.Common.{LineFault, SessionEnd, End, ReadFault, NoMemory, tail_after, tail_asked, HoldsBytes, LineBuffer, Parses, IsBeginning, asks, line_of, AnswersAll}
-use Rattle.silt_wire.proofs.Common.{AnswersSome, Ends, AnswersEach, PlainReply, lines_after, rest_after}
-use Rattle.std.proofs.Common.{IfOk, OnErr}
-use Rattle.std.proofs.lemmas.Grind.{flat_map-append}
-use Rattle.std.proofs.lemmas.List.{length-drop, map-append}
+use Rattle.silt_wire.proofs.Common.{map, ◌≡◌, ◌-◌, arith, ◌+◌, ◌≤◌, take, drop, take-append-drop, flat_map, inl, inr, ℕ, false, cond, Result, Ok, Err, List, [], ◌∷◌, ◌++◌, length, refl, sym, ap}
+use Rattle.silt_wire.proofs.Common.{◌∙◌, append_assoc, Option, Some, None, is_some, subst, append-nil, take_all, Appends, Consumes, Keeps, Event, Answer, AnswersQuery, Query, does, Tail}
+use Rattle.silt_wire.proofs.Common.{LineFault, SessionEnd, End, ReadFault, NoMemory, tail_after, tail_asked, HoldsBytes, LineBuffer, IsBeginning, asks, line_of, AnswersAll, AnswersSome, Ends}
+use Rattle.silt_wire.proofs.Common.{AnswersEach, PlainReply, lines_after, rest_after, IfOk, OnErr, flat_map-append, length-drop, map-append, admin, replies, says, valid, answer_lines, queries_of}
+use Rattle.silt_wire.proofs.Common.{texts_of, IsCut, SessionState}
+use Rattle.silt_wire.specs.Lines.{Parses, admin_of, asked_by, is_blank, query_by, query_with, with_event}
 use Rattle.std.proofs.Math.Seq.{take-add}
 use Rattle.silt_event.specs.declared.admin.Admin.{Admin}
 use Rattle.silt_event.specs.declared.admin.AdminReply.{AdminReply}
-use Rattle.silt_event.specs.Queries.{admin, replies, says}
-use Rattle.silt_wire.specs.Batches.{valid}
-use Rattle.silt_wire.specs.Lines.{admin_of, asked_by, is_blank, query_by, query_with, with_event}
 use Rattle.silt_wire.specs.Replies.{fault_line}
-use Rattle.silt_wire.specs.Sessions.{answer_lines, queries_of, texts_of, IsCut, SessionState}
 use Rattle.silt_wire.proofs.Streams.{rest_after-append, lines_after-append, Appends-append, Appends-keeps, Appends-none}
 
 -- ---- beginnings

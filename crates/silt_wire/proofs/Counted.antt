@@ -1,6 +1,5 @@
 -- Names beside numbers.
-use Rattle.silt_wire.proofs.Common.{◌≡◌, Bor, List, [], ◌∷◌, ap, map, refl, ℕ}
-use Rattle.std.specs.List.{zip}
+use Rattle.silt_wire.proofs.Common.{◌≡◌, Bor, List, [], ◌∷◌, ap, map, refl, ℕ, zip}
 
 -- the text of each name beside its number
 pub rows-zip : (names : List (Bor (List ℕ))) (numbers : List ℕ)

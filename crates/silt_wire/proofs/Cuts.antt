@@ -1,11 +1,9 @@
 -- The words of a line, and what they ask for.
 use Rattle.silt_wire.proofs.Common.{◌≡◌, ◌==◌, ◌+◌, ℕ, List, [], ◌∷◌, length, take, drop, Option, Some, None, is_some, false, Result, Err, refl, sym, ap, ◌∙◌, inl, arith, position}
-use Rattle.silt_wire.proofs.Common.{fails_before_first, Event, LineFault, Parses}
-use Rattle.std.proofs.Common.{◌≢◌}
-use Rattle.std.specs.Prelude.{IfNone}
+use Rattle.silt_wire.proofs.Common.{fails_before_first, Event, LineFault, ◌≢◌, IfNone}
+use Rattle.silt_wire.specs.Lines.{Parses, words_of, bare_event, key_event, value_event, swap_event, event_of}
 use Rattle.std.proofs.lemmas.List.Splits.{slice_split_first, slice_split_none, length-slice_split}
 use Rattle.silt_wire.specs.declared.line.LineFault.TheVariants.{BadLine}
-use Rattle.silt_wire.specs.Lines.{words_of, bare_event, key_event, value_event, swap_event, event_of}
 
 -- the first word ends at the first space, and the other words come after it
 pub words_of-cut : (text : List ℕ) (at : ℕ) → position (λ b. b == 32) text ≡ Some at → words_of text ≡ take at text ∷ words_of (drop (at + 1) text)

@@ -1,13 +1,8 @@
 -- What a guard passes on, and that a session does nothing for an HTTP request.
-use Rattle.std.proofs.lemmas.Bool.{eqb-true, cases_Bool}
-use Rattle.silt_wire.proofs.Common.{◌≡◌, ◌==◌, ◌&&◌, ◌+◌, ◌<◌, ◌≤◌, inl, inr, ℕ, true, false, cond, List, [], ◌∷◌, ◌++◌, length, take, drop, get_or, Option, Some, None, refl, sym, ap, subst}
-use Rattle.silt_wire.proofs.Common.{◌∙◌, append_assoc, arith, take-append-drop, common_steps, append-nil, length-take-le, take_all, take_more, Appends, Consumes, AnswersEach, Answer, Query}
-use Rattle.silt_wire.proofs.Common.{is_turned_away, AnswersAll, AnswersSome, Ends, IsBeginning, ServesAll, ServesSome, lines_after, SessionEnd, End, ReadFault}
-use Rattle.std.proofs.Common.{◌⊎◌, Bool, option_map}
-use Rattle.std.specs.Prelude.{IfSome, nat_lt}
-use Rattle.std.proofs.lemmas.List.{drop_more, take-take}
-use Rattle.std.specs.Io.KnownBytes.{IsAtEnd}
-use Rattle.silt_wire.specs.Http.{Guards, IsHttp, ends_line, handed_on, http_mark, is_passed, line_after, open_after}
+use Rattle.silt_wire.proofs.Common.{eqb-true, cases_Bool, ◌≡◌, ◌==◌, ◌&&◌, ◌+◌, ◌<◌, ◌≤◌, inl, inr, ℕ, true, false, cond, List, [], ◌∷◌, ◌++◌, length, take, drop, get_or, Option, Some, None, refl}
+use Rattle.silt_wire.proofs.Common.{sym, ap, subst, ◌∙◌, append_assoc, arith, take-append-drop, common_steps, append-nil, length-take-le, take_all, take_more, Appends, Consumes, AnswersEach}
+use Rattle.silt_wire.proofs.Common.{Answer, Query, is_turned_away, AnswersAll, AnswersSome, Ends, IsBeginning, ServesAll, ServesSome, lines_after, SessionEnd, End, ReadFault, ◌⊎◌, Bool}
+use Rattle.silt_wire.proofs.Common.{option_map, IfSome, nat_lt, drop_more, take-take, IsAtEnd, Guards, IsHttp, ends_line, handed_on, http_mark, is_passed, line_after, open_after}
 use Rattle.silt_wire.specs.declared.http_guard.FirstLine.{FirstLine}
 use Rattle.silt_wire.specs.declared.http_guard.FirstLine.TheVariants.{Open, Passed, Refused}
 

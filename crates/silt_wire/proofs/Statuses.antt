@@ -1,6 +1,5 @@
 -- What is known of a status.
-use Rattle.silt_wire.proofs.Common.{◌≡◌, ℕ, Result, Ok, Err, arith, inl, inr, refl}
-use Rattle.std.specs.Prelude.{IfOk}
+use Rattle.silt_wire.proofs.Common.{◌≡◌, ℕ, Result, Ok, Err, arith, inl, inr, refl, IfOk}
 use Rattle.silt_wire.specs.Statuses.{IsStatus}
 
 -- a weaker statement than the one reported with status 1

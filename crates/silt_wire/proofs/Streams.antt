@@ -1,12 +1,8 @@
 -- Taking bytes in two parts is taking them at once.
-use Rattle.std.proofs.lemmas.Bool.{eqb-true}
-use Rattle.silt_wire.proofs.Common.{◌≡◌, ◌==◌, ◌+◌, ◌<◌, take, get_or, ℕ, suc, true, false, cond, List, [], ◌∷◌, ◌++◌, length, refl, sym, ap, subst, ◌∙◌, append_assoc, arith, Option, Some}
-use Rattle.silt_wire.proofs.Common.{None, position, take_all, take_more, append-nil, length-take-le, fails_before_first, Appends, Consumes, Keeps, HoldsBytes, LineBuffer, lines_after}
-use Rattle.silt_wire.proofs.Common.{rest_after}
-use Rattle.std.specs.Prelude.{MatchBool}
-use Rattle.std.proofs.lemmas.List.{get_or-take}
+use Rattle.silt_wire.proofs.Common.{eqb-true, ◌≡◌, ◌==◌, ◌+◌, ◌<◌, take, get_or, ℕ, suc, true, false, cond, List, [], ◌∷◌, ◌++◌, length, refl, sym, ap, subst, ◌∙◌, append_assoc, arith, Option}
+use Rattle.silt_wire.proofs.Common.{Some, None, position, take_all, take_more, append-nil, length-take-le, fails_before_first, Appends, Consumes, Keeps, HoldsBytes, LineBuffer, lines_after}
+use Rattle.silt_wire.proofs.Common.{rest_after, MatchBool, get_or-take, TakesPiece}
 use Rattle.std.proofs.lemmas.List.Quantifiers.{position-Some}
-use Rattle.silt_wire.specs.LineBuffer.{TakesPiece}
 use Rattle.silt_wire.specs.declared.line_buffer.Taken.{Taken}
 
 -- what is pending after two parts

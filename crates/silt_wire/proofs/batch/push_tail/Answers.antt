@@ -1,5 +1,4 @@
-use Rattle.silt_wire.proofs.Common.{[], ◌∷◌, Some, string_bytes, subst, sym, on_ok_weaker, AnswersQuery, tail_asked, Tail, AnswersAll}
-use Rattle.std.proofs.Common.{OnOk}
+use Rattle.silt_wire.proofs.Common.{[], ◌∷◌, Some, string_bytes, subst, sym, on_ok_weaker, AnswersQuery, tail_asked, Tail, AnswersAll, OnOk}
 use Rattle.silt_wire.proofs.Answering.{all-admin}
 use Rattle.silt_wire.proofs.batch.push_tail.Goals as goal
 

@@ -1,10 +1,8 @@
-use Rattle.std.proofs.Common.{◌≡◌, Bor, List, ap, map, rules, ◌∙◌, ℕ}
+use Rattle.silt_wire.proofs.Common.{◌≡◌, Bor, List, ap, map, rules, ◌∙◌, ℕ, zip, count_names}
 use Rattle.std.specs.Iterator.Adapters.{zip_first, zip_second}
-use Rattle.std.specs.List.{zip}
 use Rattle.std.specs.Slice.Iter.{iter_rest}
 use Rattle.std.proofs.lemmas.Iterator.{YieldsList-from_slice, YieldsList-from_zip}
 use Rattle.std.proofs.lemmas.Iterator.Consumers.{YieldsList-end}
-use Rattle.silt_wire.specs.Facts.{count_names}
 use Rattle.silt_wire.proofs.Counted.{rows-zip}
 use Rattle.silt_wire.proofs.facts.count_rows.Goals as goal
 

@@ -1,5 +1,4 @@
-use Rattle.silt_wire.proofs.Common.{◌≡◌, ◌++◌, flat_map, map, string_bytes, take}
-use Rattle.silt_wire.specs.Facts.{fact_line}
+use Rattle.silt_wire.proofs.Common.{◌≡◌, ◌++◌, flat_map, map, string_bytes, take, fact_line}
 use Rattle.silt_wire.proofs.facts.push_rows.Given as goal
 
 abbrev pub invariant-loop-name : goal.invariant-loop-name

@@ -1,7 +1,4 @@
-use Rattle.std.proofs.Common.{ℕ, List, take, sym, subst, arith}
-use Rattle.silt_event.specs.Queries.{AnswersQuery}
-use Rattle.silt_wire.specs.LineBuffer.{HoldsBytes}
-use Rattle.silt_wire.specs.Sessions.{ServesAll, ServesSome, rest_after}
+use Rattle.silt_wire.proofs.Common.{ℕ, List, take, sym, subst, arith, AnswersQuery, HoldsBytes, ServesAll, ServesSome, rest_after}
 use Rattle.silt_wire.proofs.Answering.{all-part, on-err, rest_after-part, some-part}
 use Rattle.silt_wire.proofs.sessions.answer_read.Goals as goal
 

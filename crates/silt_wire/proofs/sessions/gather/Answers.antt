@@ -1,6 +1,4 @@
-use Rattle.std.proofs.Common.{[], ◌+◌, sym, ◌∙◌, arith}
-use Rattle.std.proofs.lemmas.List.{append-nil}
-use Rattle.silt_wire.specs.Batches.{tail_after, requests}
+use Rattle.silt_wire.proofs.Common.{[], ◌+◌, sym, ◌∙◌, arith, append-nil, tail_after, requests}
 use Rattle.silt_wire.proofs.Answering.{tail_after-none, gathers-begins, gathers-part, holds-part}
 use Rattle.silt_wire.proofs.sessions.gather.Goals as goal
 

@@ -1,5 +1,4 @@
-use Rattle.silt_wire.proofs.Common.{◌≡◌, ◌≤◌, ◌-◌, ◌++◌, ℕ, List, length, take, requests, HoldsBytes, asks, lines_after, rest_after}
-use Rattle.silt_wire.specs.Batches.{IsAnswerable}
+use Rattle.silt_wire.proofs.Common.{◌≡◌, ◌≤◌, ◌-◌, ◌++◌, ℕ, List, length, take, requests, HoldsBytes, asks, lines_after, rest_after, IsAnswerable}
 use Rattle.silt_wire.proofs.sessions.gather.Given as goal
 
 abbrev pub invariant-loop-count : goal.invariant-loop-count

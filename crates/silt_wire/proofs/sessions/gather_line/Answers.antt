@@ -1,5 +1,4 @@
-use Rattle.silt_wire.proofs.Common.{◌++◌, List, ℕ, ap, subst, sym, ◌∙◌, requests, HoldsBytes, asks}
-use Rattle.std.proofs.lemmas.Bool.{not-false, not-true}
+use Rattle.silt_wire.proofs.Common.{◌++◌, List, ℕ, ap, subst, sym, ◌∙◌, requests, HoldsBytes, asks, not-false, not-true}
 use Rattle.silt_wire.proofs.Streams.{piece-line, piece-open, piece-over}
 use Rattle.silt_wire.proofs.sessions.gather_line.Goals as goal
 

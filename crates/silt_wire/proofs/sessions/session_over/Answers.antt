@@ -1,8 +1,8 @@
 use Rattle.silt_wire.proofs.Common.{◌++◌, [], List, ℕ, sym, subst, take, AnswersQuery, HoldsBytes}
 use Rattle.silt_wire.proofs.Answering.{Ends-cut, Ends-unbegun, all-bytes, some-bytes}
 use Rattle.silt_wire.proofs.Streams.{Consumes-append, Consumes-keeps, rest_after-append}
-use Rattle.silt_wire.proofs.sessions.session_over.Goals as goal
 use Rattle.silt_wire.proofs.sessions.session_over.Goals.{in-Ok-read+in-Ok-answer_read, in-Err}
+use Rattle.silt_wire.proofs.sessions.session_over.Goals as goal
 
 pub returns-in_default-clause-ends : goal.returns-in_default-clause-ends
 returns-in_default-clause-ends g c = Ends-unbegun (AnswersQuery g.A.Answerer.answers g.A.Answerer.administers) c.args.value_len (record {

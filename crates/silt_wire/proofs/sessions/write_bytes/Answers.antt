@@ -1,7 +1,7 @@
 use Rattle.silt_wire.proofs.Answering.{wrote-front, wrote-piece, Appends-piece, IsBeginning-take, within-piece}
 use Rattle.silt_wire.proofs.Streams.{Appends-keeps}
-use Rattle.silt_wire.proofs.sessions.write_bytes.Goals as goal
 use Rattle.silt_wire.proofs.sessions.write_bytes.Goals.{in-Ok, in-Err}
+use Rattle.silt_wire.proofs.sessions.write_bytes.Goals as goal
 
 pub returns-in-Ok-eq0-clause-some : goal.returns-in-Ok-eq0-clause-some
 returns-in-Ok-eq0-clause-some g c =

@@ -1,5 +1,4 @@
-use Rattle.silt_wire.proofs.Common.{◌≡◌, ◌++◌, ◌∙◌, ap, subst, List, ℕ, flat_map, string_bytes, on_ok_weaker, PlainReply, IsBeginning, line_of}
-use Rattle.std.proofs.lemmas.Result.{on_err_weaker}
+use Rattle.silt_wire.proofs.Common.{◌≡◌, ◌++◌, ◌∙◌, ap, subst, List, ℕ, flat_map, string_bytes, on_ok_weaker, PlainReply, IsBeginning, line_of, on_err_weaker}
 use Rattle.silt_wire.proofs.Answering.{all-events, some-events}
 use Rattle.silt_wire.proofs.batch.Batch.answer.Goals as goal
 
