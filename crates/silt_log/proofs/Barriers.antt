@@ -1,8 +1,5 @@
 -- A write after a sync.
-use Rattle.std.proofs.Common.{arith}
-use Rattle.silt_log.proofs.Common.{◌≡◌, ℕ, List, subst, ◌∙◌, inr, Content, Torn, ChangesWithin, Writes, SyncsAndTears}
-use Rattle.silt_disk.specs.Disk.{Settles, Stays}
-use Rattle.silt_disk.proofs.Images.{left_after_sync, left_after_failed_sync, torn_refl}
+use Rattle.silt_log.proofs.Common.{arith, ◌≡◌, ℕ, List, subst, ◌∙◌, inr, Content, Torn, ChangesWithin, Writes, SyncsAndTears, Settles, Stays, left_after_sync, left_after_failed_sync, torn_refl}
 
 -- the sync failed
 pub not_begun : (at count : ℕ) (old new : Content) → Stays old new → SyncsAndTears at count old new

@@ -1,8 +1,6 @@
 -- The rows in the bodies of a log.
-use Rattle.silt_log.proofs.Common.{◌≡◌, ℕ, ◌+◌, ◌*◌, ◌≤◌, ◌<◌, List, ◌++◌, length, map, refl, ap, arith, range_with_len, Torn, splice, torn_slice_before, torn_slice_after, body_row, row_of}
-use Rattle.std.proofs.Common.{zero, suc}
-use Rattle.silt_disk.proofs.Images.{splice_slice}
-use Rattle.silt_disk.proofs.Regions.{next_region}
+use Rattle.silt_log.proofs.Common.{◌≡◌, ℕ, ◌+◌, ◌*◌, ◌≤◌, ◌<◌, List, ◌++◌, length, map, refl, ap, arith, range_with_len, Torn, splice, torn_slice_before, torn_slice_after, body_row, row_of, zero}
+use Rattle.silt_log.proofs.Common.{suc, splice_slice, next_region}
 
 -- a list made of numbers from a place on, in two parts
 pub range_split : {X : Type 0} (f : ℕ → X) (from a b : ℕ) → map f (range_with_len from (a + b)) ≡ map f (range_with_len from a) ++ map f (range_with_len (from + a) b)

@@ -1,12 +1,9 @@
 -- The state at each exit of the calls that write all commit bytes of a log or those of the waiting rows.
 use Rattle.silt_log.proofs.Common.{◌≡◌, ℕ, ◌+◌, ◌-◌, ◌≤◌, ◌<◌, false, IsTrue, List, [], ◌++◌, length, map, replicate, refl, sym, ap, ◌∙◌, subst, inl, inr, arith, prefix_len, range_with_len}
 use Rattle.silt_log.proofs.Common.{false≢true, get_or-replicate, length-replicate, append-nil, length-map-range_with_len, Content, Torn, LeavesOnly, Writes, Rests, size, splice, row_len}
-use Rattle.silt_log.proofs.Common.{commits_at, bodies_at, device_size, shown_left, rests_leaves, splice_byte, is_open, commit_bytes, body_row, StoredRow, LogState, InBounds, IsLog}
-use Rattle.silt_log.proofs.Common.{settled_rows, all_rows, SyncsAndTears, OpensCommits}
-use Rattle.std.proofs.lemmas.List.FromFn.{take-map-range_with_len}
-use Rattle.silt_log.specs.Rows.{rows_from, first_rows, row_at, log_rows, open_count}
-use Rattle.silt_log.specs.State.{opened_image}
-use Rattle.silt_log.specs.Calls.{Empties, OpensSome, HasBeginning}
+use Rattle.silt_log.proofs.Common.{commits_at, bodies_at, device_size, shown_left, rests_leaves, splice_byte, is_open, commit_bytes, body_row, StoredRow, LogState, InBounds, IsLog, settled_rows}
+use Rattle.silt_log.proofs.Common.{all_rows, SyncsAndTears, OpensCommits, take-map-range_with_len, first_rows, opened_image, Empties, OpensSome, HasBeginning}
+use Rattle.silt_log.specs.Rows.{rows_from, row_at, log_rows, open_count}
 use Rattle.silt_log.proofs.Bodies.{range_split}
 use Rattle.silt_log.proofs.Splices.{spliced_over}
 use Rattle.silt_log.proofs.Standing.{Stands, commits_torn_rows, commits_spliced, commits_torn, commits_within}

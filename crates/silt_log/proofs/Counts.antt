@@ -1,8 +1,6 @@
 -- How many commit bytes are open before the first closed one.
-use Rattle.silt_log.proofs.Common.{◌≡◌, ℕ, ◌+◌, ◌-◌, ◌≤◌, ◌<◌, true, false, List, length, drop, get_or, sym, ap, ◌∙◌, inl, inr, arith, length-drop, prefix_len, list_any, cases_lt}
-use Rattle.silt_log.proofs.Common.{cases_Bool, false≢true, length-between, get_or-between, Torn, is_open, CommitsAre, commit_bytes}
-use Rattle.std.proofs.Common.{get_or-drop}
-use Rattle.std.proofs.lemmas.Bool.{cases_order}
+use Rattle.silt_log.proofs.Common.{◌≡◌, ℕ, ◌+◌, ◌-◌, ◌≤◌, ◌<◌, true, false, List, length, drop, get_or, sym, ap, ◌∙◌, inl, inr, arith, length-drop, prefix_len, list_any, cases_lt, cases_Bool}
+use Rattle.silt_log.proofs.Common.{false≢true, length-between, get_or-between, Torn, is_open, CommitsAre, commit_bytes, get_or-drop, cases_order}
 use Rattle.std.proofs.lemmas.List.Folds.{list_any_at}
 use Rattle.std.proofs.lemmas.List.Sums.{prefix_len-le-length, prefix_len_passes, prefix_len_stops}
 

@@ -1,15 +1,9 @@
 -- For the crates above: what calls on other parts of the disk leave of a log, and how its rows make one list.
-use Rattle.silt_log.proofs.Common.{◌≡◌, ℕ, ◌+◌, ◌-◌, ◌*◌, ◌≤◌, ◌<◌, IsTrue, List, ◌++◌, length, map, get_or, refl, sym, ap, ◌∙◌, subst, inl, inr, arith, range_with_len, prefix_len}
-use Rattle.silt_log.proofs.Common.{ChangesWithin, Content, LeavesOnly, Torn, size, Shape, bodies_at, device_size, commits_at, row_len, shown_left, torn_slice_before, within_leaves}
-use Rattle.silt_log.proofs.Common.{torn_slice_after, CommitsAre, body_at, body_row, commit_bytes, row_of, StoredRow, LogState, IsLog, settled_rows, waiting_rows, all_rows, KeepsRows}
-use Rattle.silt_log.proofs.Common.{length-map-range_with_len, is_open}
-use Rattle.std.proofs.Common.{◌⊎◌}
-use Rattle.silt_disk.specs.Disk.{LiesOutside}
-use Rattle.silt_disk.specs.Layout.{log_len, log_size}
-use Rattle.silt_disk.proofs.Images.{within_wider}
-use Rattle.silt_disk.proofs.Regions.{up_least}
+use Rattle.silt_log.proofs.Common.{◌≡◌, ℕ, ◌+◌, ◌-◌, ◌*◌, ◌≤◌, ◌<◌, IsTrue, List, ◌++◌, length, map, get_or, refl, sym, ap, ◌∙◌, subst, inl, inr, arith, range_with_len, prefix_len, ChangesWithin}
+use Rattle.silt_log.proofs.Common.{Content, LeavesOnly, Torn, size, Shape, bodies_at, device_size, commits_at, row_len, shown_left, torn_slice_before, within_leaves, torn_slice_after, CommitsAre}
+use Rattle.silt_log.proofs.Common.{body_at, body_row, commit_bytes, row_of, StoredRow, LogState, IsLog, settled_rows, waiting_rows, all_rows, KeepsRows, length-map-range_with_len, is_open, ◌⊎◌}
+use Rattle.silt_log.proofs.Common.{LiesOutside, log_len, log_size, within_wider, up_least, get_or-map-range_with_len}
 use Rattle.silt_log.specs.Rows.{rows_from, row_at, log_rows, open_count}
-use Rattle.std.proofs.lemmas.List.FromFn.{get_or-map-range_with_len}
 use Rattle.silt_log.proofs.Counts.{count_most}
 use Rattle.silt_log.proofs.Bodies.{body_before, map_range_same, range_split, rows_behind}
 use Rattle.silt_log.proofs.Standing.{commits_within}

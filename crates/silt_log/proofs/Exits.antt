@@ -1,10 +1,8 @@
 -- The state at each exit of the calls of a log.
-use Rattle.silt_log.proofs.Common.{◌≡◌, ℕ, ◌+◌, ◌-◌, ◌*◌, ◌≤◌, ◌<◌, false, IsTrue, List, [], ◌∷◌, ◌++◌, length, refl, sym, ap, ◌∙◌, subst, arith, map-range_with_len_more, Content}
-use Rattle.silt_log.proofs.Common.{LeavesOnly, ChangesWithin, Writes, size, Shape, row_len, commits_at, bodies_at, device_size, shown_left, within_leaves, body_row, body_at, row_of}
-use Rattle.silt_log.proofs.Common.{StoredRow, LogState, InBounds, IsLog, settled_rows, all_rows, KeepsRows}
-use Rattle.silt_disk.proofs.Regions.{regions_apart}
+use Rattle.silt_log.proofs.Common.{◌≡◌, ℕ, ◌+◌, ◌-◌, ◌*◌, ◌≤◌, ◌<◌, false, IsTrue, List, [], ◌∷◌, ◌++◌, length, refl, sym, ap, ◌∙◌, subst, arith, map-range_with_len_more, Content, LeavesOnly}
+use Rattle.silt_log.proofs.Common.{ChangesWithin, Writes, size, Shape, row_len, commits_at, bodies_at, device_size, shown_left, within_leaves, body_row, body_at, row_of, StoredRow, LogState}
+use Rattle.silt_log.proofs.Common.{InBounds, IsLog, settled_rows, all_rows, KeepsRows, regions_apart, Appends}
 use Rattle.silt_log.specs.Rows.{row_at, rows_from, log_rows, open_count}
-use Rattle.silt_log.specs.Calls.{Appends}
 use Rattle.silt_log.proofs.Counts.{count_is}
 use Rattle.silt_log.proofs.Bodies.{body_before, rows_below, row_written}
 use Rattle.silt_log.proofs.Standing.{Lies, Stands, rows_standing, body_torn, commits_spliced, commits_within}

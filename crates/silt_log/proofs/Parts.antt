@@ -1,6 +1,6 @@
 -- The result of a read of a part of a body.
-use Rattle.silt_log.proofs.Common.{◌≡◌, ℕ, ◌+◌, ◌-◌, ◌≤◌, List, length, take, drop, slice_range, ap, ◌∙◌, arith, length-drop, length-between, get_or-between, Shape, row_len, body_at}
-use Rattle.std.proofs.lemmas.List.{ext_get_or, get_or-drop, drop-take}
+use Rattle.silt_log.proofs.Common.{◌≡◌, ℕ, ◌+◌, ◌-◌, ◌≤◌, List, length, take, drop, slice_range, ap, ◌∙◌, arith, length-drop, length-between, get_or-between, Shape, row_len, body_at, ext_get_or}
+use Rattle.silt_log.proofs.Common.{get_or-drop, drop-take}
 use Rattle.silt_log.specs.Rows.{row_at}
 use Rattle.silt_log.proofs.Counts.{same_byte}
 

@@ -1,7 +1,6 @@
 -- The result of a scan.
 use Rattle.silt_log.proofs.Common.{◌≡◌, ℕ, Bool, List, map, drop, Result, Ok, ap, ◌∙◌, prefix_len, range_with_len, list_any, Shape, row_len, commits_at, bodies_at, is_open, Row, ScanError}
-use Rattle.silt_log.proofs.Common.{AreRows, FirstUnknown, commit_bytes, body_row, IsScanRefused}
-use Rattle.std.proofs.Common.{is_ok, MatchResult, arith}
+use Rattle.silt_log.proofs.Common.{AreRows, FirstUnknown, commit_bytes, body_row, IsScanRefused, is_ok, MatchResult, arith}
 use Rattle.silt_log.specs.Rows.{row_at, rows_from, log_rows, open_count, has_stale_commit}
 use Rattle.silt_log.proofs.Scanned.{refused_weaker}
 

@@ -1,11 +1,9 @@
 -- The rows that a scan reads.
 use Rattle.silt_log.proofs.Common.{cond, ◌≡◌, ℕ, ◌+◌, ◌*◌, ◌≤◌, ◌<◌, true, false, List, [], ◌∷◌, ◌++◌, length, map, slice_range, Some, Result, Ok, Err, refl, sym, ap, ◌∙◌, subst, arith}
-use Rattle.silt_log.proofs.Common.{range_with_len, cases_Bool, cond-true, cond-false, eqb-true, false≢true, map-range_with_len_more, length-map-range_with_len, length-between}
-use Rattle.silt_log.proofs.Common.{get_or-between, kind_byte, kind_of, head_of, Key, Kind, Row, ScanError, IsScanRefused, AreRows, FirstUnknown, body_row, has_known_kind, StoredRow}
-use Rattle.std.proofs.Common.{below_more, is_some, option_map, is_ok, OnOk}
-use Rattle.std.proofs.lemmas.List.{map_push, map-id, length_push}
+use Rattle.silt_log.proofs.Common.{range_with_len, cases_Bool, cond-true, cond-false, eqb-true, false≢true, map-range_with_len_more, length-map-range_with_len, length-between, get_or-between}
+use Rattle.silt_log.proofs.Common.{kind_byte, kind_of, head_of, Key, Kind, Row, ScanError, IsScanRefused, AreRows, FirstUnknown, body_row, has_known_kind, StoredRow, below_more, is_some}
+use Rattle.silt_log.proofs.Common.{option_map, is_ok, OnOk, map_push, map-id, length_push, IsRow}
 use Rattle.silt_log.specs.declared.scan.ScanError.TheVariants.{Damaged}
-use Rattle.silt_log.specs.Rows.{IsRow}
 use Rattle.silt_log.proofs.Parts.{slice_of_slice, drop_front}
 
 -- one more number

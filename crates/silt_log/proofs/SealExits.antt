@@ -1,10 +1,8 @@
 -- The state at each exit of a seal.
-use Rattle.silt_log.proofs.Common.{◌≡◌, ℕ, ◌+◌, ◌-◌, ◌≤◌, ◌<◌, false, IsTrue, List, length, get_or, replicate, refl, sym, ap, ◌∙◌, subst, inl, inr, arith, prefix_len, cases_lt}
-use Rattle.silt_log.proofs.Common.{get_or-replicate, length-replicate, Content, Torn, LeavesOnly, ChangesWithin, Writes, Rests, size, splice, commits_at, device_size, rests_leaves}
-use Rattle.silt_log.proofs.Common.{torn_splice, splice_byte, is_open, CommitsAre, commit_bytes, LogState, InBounds, settled_rows, Seals}
-use Rattle.silt_disk.proofs.Images.{left_at_rest}
+use Rattle.silt_log.proofs.Common.{◌≡◌, ℕ, ◌+◌, ◌-◌, ◌≤◌, ◌<◌, false, IsTrue, List, length, get_or, replicate, refl, sym, ap, ◌∙◌, subst, inl, inr, arith, prefix_len, cases_lt, get_or-replicate}
+use Rattle.silt_log.proofs.Common.{length-replicate, Content, Torn, LeavesOnly, ChangesWithin, Writes, Rests, size, splice, commits_at, device_size, rests_leaves, torn_splice, splice_byte}
+use Rattle.silt_log.proofs.Common.{is_open, CommitsAre, commit_bytes, LogState, InBounds, settled_rows, Seals, left_at_rest, IsScanned}
 use Rattle.silt_log.specs.Rows.{rows_from, row_at, log_rows, open_count, has_stale_commit}
-use Rattle.silt_log.specs.State.{IsScanned}
 use Rattle.silt_log.proofs.Counts.{same_byte, count_between, counted_open, first_closed, commits_counted}
 use Rattle.silt_log.proofs.Standing.{commits_torn_rows, commits_within}
 use Rattle.silt_log.proofs.Exits.{fits_resized, StandsIn, region_lies, log_from}

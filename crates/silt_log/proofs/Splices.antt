@@ -1,9 +1,6 @@
 -- One write after another.
-use Rattle.silt_log.proofs.Common.{◌≡◌, ℕ, ◌+◌, ◌-◌, ◌≤◌, List, ◌++◌, length, take, drop, replicate, sym, ap, ◌∙◌, subst, inl, inr, arith, length-append, length-take-le, cases_lt, Content}
-use Rattle.silt_log.proofs.Common.{Torn, ChangesWithin, Writes, size, splice, torn_splice, splice_byte, Key, Kind, row_of}
-use Rattle.std.proofs.Common.{ext_get_or, append_assoc, take_at, drop_at, drop-drop}
-use Rattle.silt_frame.specs.Frame.{head_bytes}
-use Rattle.silt_frame.specs.Rows.{stored_row}
+use Rattle.silt_log.proofs.Common.{◌≡◌, ℕ, ◌+◌, ◌-◌, ◌≤◌, List, ◌++◌, length, take, drop, replicate, sym, ap, ◌∙◌, subst, inl, inr, arith, length-append, length-take-le, cases_lt, Content, Torn}
+use Rattle.silt_log.proofs.Common.{ChangesWithin, Writes, size, splice, torn_splice, splice_byte, Key, Kind, row_of, ext_get_or, append_assoc, take_at, drop_at, drop-drop, head_bytes, stored_row}
 use Rattle.silt_log.proofs.Counts.{same_byte}
 
 -- the same bytes over a range hide an earlier write there

@@ -1,6 +1,6 @@
 -- For the crates above: the rows that wait after each call.
 use Rattle.silt_log.proofs.Common.{◌≡◌, ◌≤◌, IsTrue, List, [], ◌++◌, sym, ◌∙◌, arith, append-nil, Content, StoredRow, LogState, IsLog, settled_rows, waiting_rows, all_rows, KeepsRows}
-use Rattle.std.proofs.lemmas.List.{append_assoc, append_cancel_left}
+use Rattle.silt_log.proofs.Common.{append_assoc, append_cancel_left}
 use Rattle.silt_log.specs.Rows.{rows_from}
 use Rattle.silt_log.proofs.Elsewhere.{all_are_settled_and_waiting}
 

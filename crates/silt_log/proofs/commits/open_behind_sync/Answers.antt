@@ -1,5 +1,4 @@
-use Rattle.silt_log.proofs.Common.{rules, arith, wrote_err, wrote_ok, wrote_then}
-use Rattle.silt_disk.proofs.Wrote.{sync_wrote}
+use Rattle.silt_log.proofs.Common.{rules, arith, wrote_err, wrote_ok, wrote_then, sync_wrote}
 use Rattle.silt_log.proofs.Barriers.{begun}
 use Rattle.silt_log.proofs.commits.open_behind_sync.Goals as goal
 

@@ -1,5 +1,4 @@
-use Rattle.silt_log.proofs.Common.{arith, wrote_err, wrote_ok, wrote_then}
-use Rattle.silt_disk.proofs.Wrote.{write_wrote, wrote_wider}
+use Rattle.silt_log.proofs.Common.{arith, wrote_err, wrote_ok, wrote_then, write_wrote, wrote_wider}
 use Rattle.silt_log.proofs.Splices.{both_written}
 use Rattle.silt_log.proofs.commits.write_row.Goals as goal
 

@@ -1,5 +1,5 @@
-use Rattle.silt_log.proofs.Common.{◌≡◌, true, sym, ap, ◌∙◌}
-use Rattle.std.specs.Result.{is_ok, result_ok}
+use Rattle.silt_log.proofs.Common.{◌≡◌, true, sym, ap, ◌∙◌, is_ok}
+use Rattle.std.specs.Result.{result_ok}
 use Rattle.silt_log.proofs.Scanned.{on_ok_at, row_read}
 use Rattle.silt_log.proofs.scan.read_row.Goals as goal
 

@@ -1,5 +1,4 @@
-use Rattle.silt_log.proofs.Common.{◌≡◌, ℕ, true, cond, Bool, vec_len, ◌+◌, sym, ap, ◌∙◌, err_from_is_err_and, body_row, StoredRow}
-use Rattle.std.proofs.Common.{is_ok}
+use Rattle.silt_log.proofs.Common.{◌≡◌, ℕ, true, cond, Bool, vec_len, ◌+◌, sym, ap, ◌∙◌, err_from_is_err_and, body_row, StoredRow, is_ok}
 use Rattle.silt_log.proofs.Scanned.{rows_more, known_more, refused_here, pushed_ok}
 use Rattle.silt_log.proofs.scan.read_rows.Goals as goal
 
