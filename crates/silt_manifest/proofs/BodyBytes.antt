@@ -1,7 +1,6 @@
 -- The bytes of a body, part by part.
 use Rattle.silt_manifest.proofs.Common.{◌≡◌, ℕ, ◌+◌, ◌-◌, ◌*◌, ◌<◌, ◌≤◌, List, [], ◌∷◌, ◌++◌, length, take, replicate, get_or, refl, arith, append_assoc, append-nil, take_more, take_all}
-use Rattle.silt_manifest.proofs.Common.{big_bytes, number_at, id_bytes, ids_bytes, ids_at}
-use Rattle.std.proofs.lemmas.List.FromFn.{length-map-range_with_len}
+use Rattle.silt_manifest.proofs.Common.{big_bytes, number_at, id_bytes, ids_bytes, ids_at, length-map-range_with_len}
 use Rattle.silt_manifest.specs.IdList.{IsIdList, count_back, numbers_back}
 
 -- as many ids as their count

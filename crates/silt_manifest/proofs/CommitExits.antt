@@ -1,10 +1,9 @@
 -- The state at each exit of the call that opens a next record's commit byte.
 use Rattle.silt_manifest.proofs.Common.{◌≡◌, ℕ, ◌+◌, ◌%◌, ◌≤◌, inl, inr, true, false, List, [], ◌∷◌, length, get_or, slice_range, slice_index, Some, sym, ap, ◌∙◌, arith, cases_Bool, Content}
-use Rattle.silt_manifest.proofs.Common.{LeavesOnly, Torn, ChangesWithin, Writes, Rests, size, splice, header_of, version_of, slot_at, within_leaves, write_shows, rests_leaves, leaves_shows}
-use Rattle.silt_manifest.proofs.Common.{sized_leaves, sized_shows, torn_splice, torn_slice_after, is_open, FitsSlot, FitsDigests, long_record, record_bytes, slot_of, is_slot_open, record_behind}
-use Rattle.silt_manifest.proofs.Common.{open_record, current_manifest, ManifestState, IsNext, IsPrepared, IsCurrentIn, IsReady, IsCurrent, with_current, current_record, current_slot, spare_slot}
-use Rattle.silt_manifest.proofs.Common.{Body, Digests, SlotRecord}
-use Rattle.silt_manifest.specs.Standing.{OldOrNewIsCurrent}
+use Rattle.silt_manifest.proofs.Common.{LeavesOnly, Torn, ChangesWithin, Writes, Rests, size, splice, header_of, version_of, slot_at, is_open, FitsSlot, FitsDigests, long_record, record_bytes}
+use Rattle.silt_manifest.proofs.Common.{slot_of, is_slot_open, record_behind, open_record, current_manifest, ManifestState, IsNext, IsPrepared, IsCurrentIn, IsReady, IsCurrent, with_current}
+use Rattle.silt_manifest.proofs.Common.{current_record, current_slot, spare_slot, Body, Digests, SlotRecord, OldOrNewIsCurrent}
+use Rattle.silt_disk.proofs.Images.{within_leaves, write_shows, rests_leaves, leaves_shows, sized_leaves, sized_shows, torn_splice, torn_slice_after}
 use Rattle.silt_manifest.proofs.DigestTrip.{record_law}
 use Rattle.silt_manifest.proofs.SlotImages.{slot_parts, closed_record, opened_record, other_same, commit_written, version_stays}
 use Rattle.silt_manifest.proofs.SoundBodies.{long_sound}

@@ -1,7 +1,6 @@
 -- The current record, from what the two slots hold.
 use Rattle.silt_manifest.proofs.Common.{◌≡◌, ℕ, ◌+◌, ◌⊎◌, inl, inr, true, false, nat_lt, List, Option, Some, None, Err, refl, sym, ap, ◌∙◌, arith, cases_Bool, cases_eq, nat_tests, header_of}
-use Rattle.silt_manifest.proofs.Common.{version_of, Shape, Version, is_sound_record, manifest_found, open_record, current_manifest, where_found, Slot, SlotRecord}
-use Rattle.std.proofs.Common.{Ok}
+use Rattle.silt_manifest.proofs.Common.{version_of, Shape, Version, is_sound_record, manifest_found, open_record, current_manifest, where_found, Slot, SlotRecord, Ok}
 use Rattle.silt_manifest.specs.Current.{record_found}
 
 -- of two, the second is newer

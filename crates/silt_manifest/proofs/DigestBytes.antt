@@ -1,7 +1,6 @@
 -- The bytes of digests, one after the other, and digests from bytes.
 use Rattle.silt_manifest.proofs.Common.{◌≡◌, ℕ, ◌+◌, ◌*◌, ◌<◌, List, [], ◌++◌, length, map, take, get_or, refl, arith, range_with_len, cases_eq, take_all, take_more, Digest, digest_at}
-use Rattle.silt_manifest.proofs.Common.{digest_bytes, digests_bytes, digests_of, Digests}
-use Rattle.std.proofs.lemmas.List.{flat_map_more}
+use Rattle.silt_manifest.proofs.Common.{digest_bytes, digests_bytes, digests_of, Digests, flat_map_more}
 
 -- one more digest is in its place
 pub more_digests : (bytes new : List ℕ) (digests : List Digest) (none : Digest) (k : ℕ) (digest : List ℕ) → take (20 * k) bytes ≡ digest_bytes (take k digests)

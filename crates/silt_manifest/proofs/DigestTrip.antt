@@ -1,10 +1,7 @@
 -- What is written of digests is what is read.
 use Rattle.silt_manifest.proofs.Common.{◌≡◌, ℕ, suc, ◌+◌, ◌*◌, ◌<◌, true, nat_le, List, [], ◌∷◌, ◌++◌, length, map, get_or, refl, sym, ap, ◌∙◌, arith, append_assoc, append-nil, length-append}
 use Rattle.silt_manifest.proofs.Common.{range_with_len, nat_tests, number_at, Digest, FitsSlot, body_bytes, long_bit, FitsDigests, digest_at, digest_bytes, digests_bytes, digests_of, is_long}
-use Rattle.silt_manifest.proofs.Common.{record_bytes, Body, Digests}
-use Rattle.std.proofs.Common.{drop_at, take_at}
-use Rattle.silt_manifest.specs.Body.{body_of}
-use Rattle.silt_manifest.specs.Digests.{RecordLaw}
+use Rattle.silt_manifest.proofs.Common.{record_bytes, Body, Digests, drop_at, take_at, body_of, RecordLaw}
 use Rattle.silt_manifest.proofs.RoundTrip.{body_law, fitting_length, generation_field, map_same, range_on}
 
 -- a digest behind some bytes

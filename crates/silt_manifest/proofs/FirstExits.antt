@@ -1,9 +1,8 @@
 -- The state after the first write of a manifest.
 use Rattle.silt_manifest.proofs.Common.{◌≡◌, ℕ, ◌+◌, ◌≤◌, true, false, List, [], ◌∷◌, length, slice_range, slice_index, refl, sym, ap, ◌∙◌, arith, nat_tests, Content, LeavesOnly, Torn, Writes}
-use Rattle.silt_manifest.proofs.Common.{Rests, size, splice, header_of, version_of, Shape, InLimits, slot_at, write_shows, rests_leaves, leaves_shows, sized_shows, torn_splice, torn_slice_after}
-use Rattle.silt_manifest.proofs.Common.{splice_slice, is_open, FitsSlot, is_well_formed, FitsDigests, long_record, record_bytes, slot_of, is_slot_open, IsFirst, Digests}
-use Rattle.silt_manifest.specs.Body.{first_body}
-use Rattle.silt_manifest.specs.Standing.{FirstIsCurrentLaw}
+use Rattle.silt_manifest.proofs.Common.{Rests, size, splice, header_of, version_of, Shape, InLimits, slot_at, is_open, FitsSlot, is_well_formed, FitsDigests, long_record, record_bytes, slot_of}
+use Rattle.silt_manifest.proofs.Common.{is_slot_open, IsFirst, Digests, first_body, FirstIsCurrentLaw}
+use Rattle.silt_disk.proofs.Images.{write_shows, rests_leaves, leaves_shows, sized_shows, torn_splice, torn_slice_after, splice_slice}
 use Rattle.silt_manifest.proofs.DigestTrip.{length_record_bytes}
 use Rattle.silt_manifest.proofs.SlotImages.{slot_parts, commit_of, closed_record, other_same, commit_written}
 use Rattle.silt_manifest.proofs.CurrentLemmas.{alone_found}

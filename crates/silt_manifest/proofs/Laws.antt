@@ -1,11 +1,8 @@
 -- What keeps a record current, for a crate above to cite.
 use Rattle.silt_manifest.proofs.Common.{◌≡◌, ℕ, ◌+◌, ◌<◌, ◌≤◌, false, List, [], ◌∷◌, length, refl, ap, ◌∙◌, inl, inr, arith, slice_index, cases_eq, ChangesWithin, Content, LeavesOnly, Rests}
-use Rattle.silt_manifest.proofs.Common.{Shows, Torn, Writes, size, header_of, version_of, Shape, slot_at, torn_slice_after, torn_slice_before, rests_leaves, sized_leaves, sized_shows}
-use Rattle.silt_manifest.proofs.Common.{within_leaves, write_shows, record_behind, is_slot_open, manifest_found, open_record, slot_of, where_found, Digests, IsFirst, IsCurrentIn, ManifestState}
-use Rattle.silt_manifest.proofs.Common.{IsCurrent, current_slot, spare_slot, is_open}
-use Rattle.silt_disk.specs.Disk.{LiesOutside}
-use Rattle.silt_disk.proofs.Images.{within_shows}
-use Rattle.silt_manifest.specs.Current.{ClosedSlotLaw, OtherRecordsLaw, OtherRegionsLaw}
+use Rattle.silt_manifest.proofs.Common.{Shows, Torn, Writes, size, header_of, version_of, Shape, slot_at, record_behind, is_slot_open, manifest_found, open_record, slot_of, where_found, Digests}
+use Rattle.silt_manifest.proofs.Common.{IsFirst, IsCurrentIn, ManifestState, IsCurrent, current_slot, spare_slot, is_open, LiesOutside, ClosedSlotLaw, OtherRecordsLaw, OtherRegionsLaw}
+use Rattle.silt_disk.proofs.Images.{torn_slice_after, torn_slice_before, rests_leaves, sized_leaves, sized_shows, within_leaves, write_shows, within_shows}
 use Rattle.silt_manifest.proofs.SlotImages.{commit_written, other_same, slot_same, version_stays}
 use Rattle.silt_manifest.proofs.CurrentLemmas.{found_at}
 

@@ -1,10 +1,9 @@
 -- The state at each exit of the write of a next body.
 use Rattle.silt_manifest.proofs.Common.{◌≡◌, ℕ, ◌+◌, ◌≤◌, inl, inr, true, false, not, List, [], ◌∷◌, length, slice_index, Option, Some, refl, ap, ◌∙◌, arith, cases_Bool, Content, LeavesOnly, Torn}
-use Rattle.silt_manifest.proofs.Common.{ChangesWithin, Writes, Rests, size, splice, Shape, slot_at, within_leaves, write_shows, rests_leaves, leaves_shows, sized_leaves, sized_shows, torn_splice}
-use Rattle.silt_manifest.proofs.Common.{splice_slice, is_open, FitsSlot, FitsDigests, long_record, record_bytes, slot_of, is_slot_open, record_behind, open_record, ManifestState, IsNext}
-use Rattle.silt_manifest.proofs.Common.{IsPrepared, IsCurrentIn, IsReady, IsCurrent, current_record, current_slot, spare_slot, Body, Digests}
-use Rattle.silt_disk.proofs.Images.{weaker_leaves}
-use Rattle.silt_manifest.specs.Standing.{RecordIsCurrent, WritesNext, closing_place}
+use Rattle.silt_manifest.proofs.Common.{ChangesWithin, Writes, Rests, size, splice, Shape, slot_at, is_open, FitsSlot, FitsDigests, long_record, record_bytes, slot_of, is_slot_open, record_behind}
+use Rattle.silt_manifest.proofs.Common.{open_record, ManifestState, IsNext, IsPrepared, IsCurrentIn, IsReady, IsCurrent, current_record, current_slot, spare_slot, Body, Digests, RecordIsCurrent}
+use Rattle.silt_manifest.proofs.Common.{WritesNext, closing_place}
+use Rattle.silt_disk.proofs.Images.{within_leaves, write_shows, rests_leaves, leaves_shows, sized_leaves, sized_shows, torn_splice, splice_slice, weaker_leaves}
 use Rattle.silt_manifest.proofs.SlotImages.{closed_record, slot_same, other_same, commit_torn, commit_stays, commit_written, version_stays}
 use Rattle.silt_manifest.proofs.CurrentLemmas.{stays_current}
 

@@ -1,13 +1,10 @@
 -- What a read of the slots means for the shown bytes.
 use Rattle.silt_manifest.proofs.Common.{◌≡◌, ℕ, ◌+◌, ◌%◌, true, false, not, nat_lt, List, slice_index, Option, Some, None, Err, refl, sym, ap, subst, ◌∙◌, inl, inr, arith, cases_Bool, Content}
-use Rattle.silt_manifest.proofs.Common.{Shows, header_of, version_of, Shape, Version, is_open, IsNotRead, record_behind, is_slot_open, is_sound_record, open_record, current_manifest, slot_of}
-use Rattle.silt_manifest.proofs.Common.{where_found, IsCurrentIn, ManifestState, with_current, SlotRecord, Slot}
-use Rattle.std.proofs.Common.{Bool, if◌then◌else◌, IsTrue, ok_or, IfOk, IfErr}
-use Rattle.silt_manifest.specs.Faults.{IsDamaged, IsSlotRefused, IsUnsound}
-use Rattle.silt_manifest.specs.Current.{HasSlot, record_found}
-use Rattle.silt_manifest.specs.Standing.{manifest_of}
+use Rattle.silt_manifest.proofs.Common.{Shows, header_of, version_of, Shape, Version, is_open, record_behind, is_slot_open, is_sound_record, open_record, current_manifest, slot_of, where_found}
+use Rattle.silt_manifest.proofs.Common.{IsCurrentIn, ManifestState, with_current, SlotRecord, Slot, Bool, if◌then◌else◌, IsTrue, ok_or, IfOk, IfErr, HasSlot, manifest_of, NoSlot}
+use Rattle.silt_manifest.specs.Faults.{IsNotRead, IsDamaged, IsSlotRefused, IsUnsound}
+use Rattle.silt_manifest.specs.Current.{record_found}
 use Rattle.silt_manifest.specs.declared.slot.Damage.{Damage}
-use Rattle.silt_manifest.specs.declared.slot.Damage.TheVariants.{NoSlot}
 use Rattle.silt_manifest.specs.declared.slot.ReadFault.{ReadFault}
 use Rattle.silt_manifest.specs.declared.slot.ReadFault.TheVariants.{Damaged, Device}
 use Rattle.silt_manifest.proofs.SlotImages.{opened_record}

@@ -1,11 +1,8 @@
 -- What is written of a body is what is read.
 use Rattle.silt_manifest.proofs.Common.{◌≡◌, ℕ, suc, ◌+◌, ◌-◌, ◌*◌, ◌%◌, ◌^◌, ◌<◌, ◌≤◌, true, nat_lt, List, [], ◌∷◌, ◌++◌, length, map, replicate, refl, sym, ap, ◌∙◌, arith, append_assoc}
 use Rattle.silt_manifest.proofs.Common.{append-nil, length-append, range_with_len, and_parts, ltb-true, big_bytes, number_at, id_bytes, ids_bytes, ids_at, FitsSlot, body_bytes, long_bit, Body}
-use Rattle.std.proofs.Common.{zero}
-use Rattle.std.specs.List.{list_all}
-use Rattle.std.proofs.lemmas.List.{drop_at, take_at, length-replicate}
+use Rattle.silt_manifest.proofs.Common.{zero, list_all, drop_at, take_at, length-replicate, BodyLaw}
 use Rattle.byteorder.specs.Numbers.{big_number-reads_back, length-bytes_high_first}
-use Rattle.silt_manifest.specs.Body.{BodyLaw}
 
 -- a number behind some bytes
 pub number_behind : (n i x : ℕ) (pre post : List ℕ) → length pre ≡ i → x < 256 ^ n → number_at n i (pre ++ (big_bytes n x ++ post)) ≡ x

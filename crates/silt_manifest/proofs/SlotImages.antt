@@ -1,9 +1,7 @@
 -- What a change in one slot leaves of the slots.
 use Rattle.silt_manifest.proofs.Common.{◌≡◌, ℕ, ◌+◌, ◌-◌, ◌<◌, ◌≤◌, ◌⊎◌, inl, inr, true, false, List, [], ◌∷◌, length, get_or, slice_range, slice_index, Some, None, refl, ap, arith, cases_Bool}
-use Rattle.silt_manifest.proofs.Common.{cases_eq, nat_tests, Torn, splice, header_of, version_of, slot_at, torn_slice_before, torn_slice_after, torn_splice, is_open, record_of, slot_of}
-use Rattle.silt_manifest.proofs.Common.{is_slot_open, open_record}
-use Rattle.std.proofs.lemmas.List.{drop_more}
-use Rattle.silt_disk.proofs.Images.{splice_byte}
+use Rattle.silt_manifest.proofs.Common.{cases_eq, nat_tests, Torn, splice, header_of, version_of, slot_at, is_open, record_of, slot_of, is_slot_open, open_record, drop_more}
+use Rattle.silt_disk.proofs.Images.{torn_slice_before, torn_slice_after, torn_splice, splice_byte}
 use Rattle.silt_manifest.specs.Current.{record_behind}
 
 -- a slot is its commit byte and the bytes behind it

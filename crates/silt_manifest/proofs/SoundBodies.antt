@@ -1,11 +1,7 @@
 -- What a body that is well formed has, and a record that is sound.
-use Rattle.std.proofs.lemmas.Bool.{eqb-true, leb-true, ltb-true}
-use Rattle.silt_manifest.proofs.Common.{◌≡◌, ℕ, ◌%◌, ◌^◌, ◌<◌, ◌≤◌, ◌⊎◌, true, false, List, [], ◌∷◌, length, Some, refl, ap, ◌∙◌, arith, cases_Bool, and_parts, Shape, InLimits, Version, FitsSlot}
-use Rattle.silt_manifest.proofs.Common.{is_well_formed, is_sound_record, Body, SlotRecord}
-use Rattle.std.proofs.Common.{is_some}
+use Rattle.silt_manifest.proofs.Common.{eqb-true, leb-true, ltb-true, ◌≡◌, ℕ, ◌%◌, ◌^◌, ◌<◌, ◌≤◌, ◌⊎◌, true, false, List, [], ◌∷◌, length, Some, refl, ap, ◌∙◌, arith, cases_Bool, and_parts, Shape}
+use Rattle.silt_manifest.proofs.Common.{InLimits, Version, FitsSlot, is_well_formed, is_sound_record, Body, SlotRecord, is_some, all_below, has_due_digests}
 use Rattle.silt_disk.specs.declared.header.Version.TheVariants.{One, Two}
-use Rattle.silt_manifest.specs.Body.{all_below}
-use Rattle.silt_manifest.specs.Current.{has_due_digests}
 
 -- the numbers of a body that is well formed
 pub record SoundParts (s : Shape) (slot : ℕ) (b : Body) : Type 0 where

@@ -1,5 +1,6 @@
-use Rattle.silt_manifest.proofs.Common.{rules, Shows, Rests, IsCurrentIn, IsCurrent, IsNotRead, rests_leaves}
-use Rattle.silt_disk.specs.Disk.{GaveAny}
+use Rattle.silt_manifest.proofs.Common.{rules, Shows, Rests, IsCurrentIn, IsCurrent, GaveAny}
+use Rattle.silt_manifest.specs.Faults.{IsNotRead}
+use Rattle.silt_disk.proofs.Images.{rests_leaves}
 use Rattle.silt_manifest.proofs.ReadExits.{first_refused, second_refused, none_refused, slots_are_current, where_some, where_none}
 use Rattle.silt_manifest.proofs.manifest.read_current.Goals as goal
 

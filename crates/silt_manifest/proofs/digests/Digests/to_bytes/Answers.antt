@@ -1,5 +1,4 @@
-use Rattle.silt_manifest.proofs.Common.{rules, ◌≡◌, [], length, get_or, refl, ap, arith, Digest}
-use Rattle.std.proofs.lemmas.List.{get_or_default}
+use Rattle.silt_manifest.proofs.Common.{rules, ◌≡◌, [], length, get_or, refl, ap, arith, Digest, get_or_default}
 use Rattle.silt_manifest.proofs.DigestBytes.{all_digests, more_digests, more_long}
 use Rattle.silt_manifest.proofs.digests.Digests.to_bytes.Goals as goal
 

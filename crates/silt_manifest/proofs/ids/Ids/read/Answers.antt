@@ -1,5 +1,4 @@
-use Rattle.silt_manifest.proofs.Common.{ℕ, ◌+◌, ◌*◌, ◌∙◌, arith, take_more_set, length-set, map-range_with_len_more, number_at}
-use Rattle.std.proofs.lemmas.List.{get_or-set_other}
+use Rattle.silt_manifest.proofs.Common.{ℕ, ◌+◌, ◌*◌, ◌∙◌, arith, take_more_set, length-set, map-range_with_len_more, number_at, get_or-set_other}
 use Rattle.silt_manifest.proofs.ids.Ids.read.Goals as goal
 
 pub loop-k-preserved : goal.loop-k-preserved

@@ -1,5 +1,4 @@
-use Rattle.silt_manifest.proofs.Common.{◌≡◌, false, Some, refl, sym, ap, subst, ◌∙◌, arith, slot_at, wrote_err, wrote_ok, long_record, IsCurrent, with_current, spare_slot}
-use Rattle.silt_disk.proofs.Wrote.{wrote_at}
+use Rattle.silt_manifest.proofs.Common.{◌≡◌, false, Some, refl, sym, ap, subst, ◌∙◌, arith, slot_at, wrote_err, wrote_ok, long_record, IsCurrent, with_current, spare_slot, wrote_at}
 use Rattle.silt_manifest.proofs.CommitExits.{commit_fails, all_committed}
 use Rattle.silt_manifest.proofs.manifest.Manifest.commit_next.Goals as goal
 
