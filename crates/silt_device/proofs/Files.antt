@@ -1,12 +1,7 @@
 -- Disks in files, and the files of the system.
-use Rattle.std.proofs.Common.{◌≡◌, ℕ, false, List, IsTrue, refl, sym, ap, ◌∙◌, subst, arith}
-use Rattle.std.proofs.lemmas.List.{length-replicate}
-use Rattle.std.proofs.lemmas.Bool.{cases_Bool, cond-true, cond-false}
+use Rattle.silt_device.proofs.Common.{◌≡◌, ℕ, false, List, IsTrue, refl, sym, ap, ◌∙◌, subst, arith, length-replicate, cases_Bool, cond-true, cond-false, Content, Tears, Writes, Settles, Stays}
+use Rattle.silt_device.proofs.Common.{size, system_content, system_unpromised, unpromised, Resizes, HasLength, kept_content}
 use Rattle.std.specs.declared.fs.File.{File}
-use Rattle.silt_disk.specs.Disk.{Content, Tears, Writes, Settles, Stays, size}
-use Rattle.silt_assumption.specs.Files.{system_content, system_unpromised, unpromised}
-use Rattle.silt_device.specs.System.{Resizes}
-use Rattle.silt_device.specs.File.{HasLength, kept_content}
 
 -- if the file behaves, the disk's content is the file's
 pub kept_same : (file : Content) (len : ℕ) → IsTrue file.honest → kept_content file len ≡ file

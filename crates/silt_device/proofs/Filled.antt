@@ -1,11 +1,7 @@
 -- Files that are filled.
-use Rattle.std.proofs.Common.{◌≡◌, ℕ, suc, true, false, ◌+◌, ◌≤◌, List, length, slice_range, IsTrue, refl, arith}
-use Rattle.std.specs.Prelude.{OnOk, Result}
-use Rattle.std.proofs.lemmas.List.{append_assoc, length-append, length-take, length-replicate}
-use Rattle.std.proofs.lemmas.List.Edits.{length-between, split_between}
-use Rattle.silt_disk.specs.Disk.{Content, Settles, Writes, size, splice}
-use Rattle.silt_device.specs.File.{IsFilledFile, IsWritten, Rewrites}
-use Rattle.silt_device.specs.System.{Resizes, ShowsAlike}
+use Rattle.silt_device.proofs.Common.{◌≡◌, ℕ, suc, true, false, ◌+◌, ◌≤◌, List, length, slice_range, IsTrue, refl, arith, OnOk, Result, append_assoc, length-append, length-take, length-replicate}
+use Rattle.silt_device.proofs.Common.{length-between, split_between, Content, Settles, Writes, size, splice, IsFilledFile, IsWritten, Resizes, ShowsAlike}
+use Rattle.silt_device.specs.File.{Rewrites}
 
 -- bytes that are written where they are change nothing
 pub spliced_again : (at count : ℕ) (image : List ℕ) → at + count ≤ length image → splice at (slice_range image at (at + count)) image ≡ image

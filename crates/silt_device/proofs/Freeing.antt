@@ -1,13 +1,9 @@
 -- What a disk with several buffers has while one of them is brought in front, and while some are written out.
-use Rattle.std.proofs.Common.{◌≡◌, ◌==◌, ℕ, ◌+◌, ◌≤◌, ◌||◌, Bool, true, false, cond, leb, IsTrue, List, length, slice_range, suc, zero, refl, sym, ap, ◌∙◌, subst, inl, inr, arith}
-use Rattle.std.proofs.lemmas.List.{ext_get_or}
-use Rattle.std.proofs.lemmas.Bool.{and_parts, cases_Bool, cond-true, cond-false}
-use Rattle.std.proofs.lemmas.Bool.Decides.{nat_tests}
-use Rattle.silt_disk.specs.Disk.{Content, Makes, Restarts, Settles, Stays, Tears, Writes, size}
-use Rattle.silt_disk.proofs.Costs.{made_both, none_made}
-use Rattle.silt_device.specs.Buffered.{BufferedBytes, Buffers, HasPlaces, image_over, length-image_over, byte_elsewhere, byte_there, waits, content_over, content_over_all, lie_apart, turned}
-use Rattle.silt_device.specs.Buffered.{brought, takes, emptied, freed, freed_times, owed, owed_all, owed_by_last, cleared, to_free, readied, appended, grown, waiting_after, BufferedState}
-use Rattle.silt_device.specs.Buffered.{PassesOn, LaidOverAll, has_all, holds}
+use Rattle.silt_device.proofs.Common.{◌≡◌, ◌==◌, ℕ, ◌+◌, ◌≤◌, ◌||◌, Bool, true, false, cond, leb, IsTrue, List, length, slice_range, suc, zero, refl, sym, ap, ◌∙◌, subst, inl, inr, arith}
+use Rattle.silt_device.proofs.Common.{ext_get_or, and_parts, cases_Bool, cond-true, cond-false, nat_tests, Content, Makes, Restarts, Settles, Stays, Tears, Writes, size, made_both, none_made}
+use Rattle.silt_device.proofs.Common.{BufferedBytes, Buffers, image_over, length-image_over, byte_elsewhere, byte_there, waits, content_over, content_over_all, lie_apart, turned, brought, takes}
+use Rattle.silt_device.proofs.Common.{emptied, freed, owed, owed_all, cleared, to_free, readied, appended, grown, waiting_after, BufferedState, PassesOn, LaidOverAll, has_all, holds}
+use Rattle.silt_device.specs.Buffered.{HasPlaces, freed_times, owed_by_last}
 use Rattle.silt_device.proofs.Waiting.{or_swap, none_waits, none_over, stays_twice, stays_over, out_at, not_out_at, restarts_over, settles_over, size_over, size_over_all, tears_over, writes_over}
 use Rattle.silt_device.proofs.Waiting.{grown_places, grown_tears, grown_writes, laid_shows, laid_whole}
 

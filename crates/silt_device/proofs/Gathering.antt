@@ -1,8 +1,5 @@
 -- How many writes of its inner disk a disk that buffers makes.
-use Rattle.std.proofs.Common.{ℕ, ◌+◌, ◌≤◌, refl, arith}
-use Rattle.silt_disk.specs.Disk.{Makes}
-use Rattle.silt_disk.proofs.Costs.{made_both, most_made}
-use Rattle.silt_device.specs.Buffered.{BufferedState, SavesWrites, SavesWritesLaw, owed_all}
+use Rattle.silt_device.proofs.Common.{ℕ, ◌+◌, ◌≤◌, refl, arith, Makes, made_both, most_made, BufferedState, SavesWrites, SavesWritesLaw, owed_all}
 
 module _ {D : Type 0} {writes_of syncs_of : D → ℕ} where
   pub saves_writes : SavesWritesLaw writes_of syncs_of

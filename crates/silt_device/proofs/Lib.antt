@@ -5,3 +5,4 @@ mod Gathering
 mod Marked
 mod ToCome
 mod Waiting
+pub mod Common

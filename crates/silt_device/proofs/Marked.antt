@@ -1,12 +1,7 @@
 -- The places that a disk in memory marks as pending.
-use Rattle.std.proofs.Common.{◌≡◌, ℕ, ◌+◌, ◌-◌, ◌≤◌, ◌<◌, ◌||◌, Bool, true, false, List, length, slice_range, get_or, sym, ◌∙◌, ap, inl, inr, arith}
-use Rattle.std.proofs.lemmas.Bool.{cases_lt, cases_Bool}
-use Rattle.std.proofs.lemmas.List.Edits.{length-between, get_or-between}
-use Rattle.std.proofs.lemmas.Bool.Decides.{nat_tests}
-use Rattle.silt_disk.specs.Disk.{splice, within}
-use Rattle.std.proofs.lemmas.List.{ext_get_or}
+use Rattle.silt_device.proofs.Common.{◌≡◌, ℕ, ◌+◌, ◌-◌, ◌≤◌, ◌<◌, ◌||◌, Bool, true, false, List, length, slice_range, get_or, sym, ◌∙◌, ap, inl, inr, arith, cases_lt, cases_Bool, length-between}
+use Rattle.silt_device.proofs.Common.{get_or-between, nat_tests, splice, within, ext_get_or, torn_splice, splice_byte}
 use Rattle.silt_device.specs.Marks.{LieWithin}
-use Rattle.silt_disk.proofs.Images.{torn_splice, splice_byte}
 
 -- at each unmarked place the shown byte is settled
 abbrev pub Agrees : List ℕ → List ℕ → List Bool → Type 0

@@ -1,9 +1,7 @@
 -- The stops of later lives.
-use Rattle.std.proofs.Common.{◌≡◌, ℕ, ◌+◌, List, ◌∷◌, Some, None, drop, ◌∙◌, ap, arith}
+use Rattle.silt_device.proofs.Common.{◌≡◌, ℕ, ◌+◌, List, ◌∷◌, Some, None, drop, ◌∙◌, ap, arith, drop_more, drop_all, next_life, life_of, endless}
 use Rattle.std.specs.List.{slice_get}
-use Rattle.std.proofs.lemmas.List.{drop_more, drop_all}
 use Rattle.std.proofs.lemmas.Option.{slice_get_within, slice_get_cases, get_or_from_slice_get, none-some}
-use Rattle.silt_device.specs.Lives.{next_life, life_of, endless}
 use Rattle.silt_device.specs.declared.life.Stop.{Stop}
 
 -- if there is a next stop, the next life has it

@@ -1,17 +1,10 @@
 -- What calls do to a disk with waiting bytes, from what they do to its inner disk.
-use Rattle.std.proofs.Common.{◌≡◌, ℕ, ◌+◌, ◌-◌, ◌≤◌, ◌<◌, ◌||◌, Bool, true, false, List, length, get_or, slice_range, IsTrue, refl, sym, ap, ◌∙◌, inl, inr, arith}
-use Rattle.std.proofs.lemmas.List.{ext_get_or, get_or_past, get_or_append_left, get_or-append_right, length-append}
-use Rattle.std.proofs.lemmas.List.Edits.{length-between, get_or-between}
-use Rattle.std.proofs.lemmas.Bool.{cases_lt, cases_Bool, cond-true, cond-false}
-use Rattle.std.proofs.lemmas.Bool.Decides.{nat_tests}
-use Rattle.silt_disk.specs.Disk.{Content, Torn, Tears, Writes, Settles, Stays, Restarts, size, splice, within}
-use Rattle.silt_device.specs.Buffered.{BufferedBytes, BufferedState, Buffers, buffered_content, content_over_all, takes, grown, emptied, waits, image_over, length-image_over, byte_elsewhere}
-use Rattle.silt_device.specs.Buffered.{byte_there, content_over, holds, LaidOver}
-use Rattle.std.specs.Prelude.{Result, Ok, Err, IfOk}
-use Rattle.silt_device.specs.File.{FileState, IsOpened, file_content, random_access_content}
-use Rattle.silt_assumption.specs.Files.{system_content}
+use Rattle.silt_device.proofs.Common.{◌≡◌, ℕ, ◌+◌, ◌-◌, ◌≤◌, ◌<◌, ◌||◌, Bool, true, false, List, length, get_or, slice_range, IsTrue, refl, sym, ap, ◌∙◌, inl, inr, arith, ext_get_or, get_or_past}
+use Rattle.silt_device.proofs.Common.{get_or_append_left, get_or-append_right, length-append, length-between, get_or-between, cases_lt, cases_Bool, cond-true, cond-false, nat_tests, Content, Torn}
+use Rattle.silt_device.proofs.Common.{Tears, Writes, Settles, Stays, Restarts, size, splice, within, BufferedBytes, BufferedState, Buffers, buffered_content, content_over_all, takes, grown}
+use Rattle.silt_device.proofs.Common.{emptied, waits, image_over, length-image_over, byte_elsewhere, byte_there, content_over, holds, LaidOver, Result, Ok, Err, IfOk, FileState, IsOpened}
+use Rattle.silt_device.proofs.Common.{file_content, random_access_content, system_content, torn_splice, splice_byte}
 use Rattle.silt_device.specs.declared.system_disk.FileDisk.{FileDisk}
-use Rattle.silt_disk.proofs.Images.{torn_splice, splice_byte}
 
 -- ---- one call after another
 

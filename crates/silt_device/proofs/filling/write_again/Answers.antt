@@ -1,4 +1,4 @@
-use Rattle.std.proofs.Common.{rules, refl, arith}
+use Rattle.silt_device.proofs.Common.{rules, refl, arith}
 use Rattle.silt_device.proofs.Filled.{alike_twice, none_written, one_more}
 use Rattle.silt_device.proofs.filling.write_again.Goals as goal
 

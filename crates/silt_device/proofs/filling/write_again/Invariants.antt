@@ -1,6 +1,4 @@
-use Rattle.std.proofs.Common.{◌≡◌, ◌≤◌, ◌-◌, length}
-use Rattle.silt_device.specs.File.{IsWritten}
-use Rattle.silt_device.specs.System.{ShowsAlike}
+use Rattle.silt_device.proofs.Common.{◌≡◌, ◌≤◌, ◌-◌, length, IsWritten, ShowsAlike}
 use Rattle.silt_device.proofs.filling.write_again.Given as goal
 
 -- the bytes before `at` were written, and the file shows what it showed

@@ -1,6 +1,5 @@
-use Rattle.std.proofs.Common.{rules, arith}
+use Rattle.silt_device.proofs.Common.{rules, arith, length}
 use Rattle.silt_device.proofs.Filled.{piece_written}
-use Rattle.std.specs.Prelude.{length}
 use Rattle.silt_device.proofs.filling.write_piece.Goals as goal
 
 pub returns-clause-same : goal.returns-clause-same

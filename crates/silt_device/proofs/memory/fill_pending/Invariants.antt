@@ -1,5 +1,4 @@
-use Rattle.std.proofs.Common.{◌≡◌, ℕ, ◌<◌, ◌≤◌, true, false, get_or}
-use Rattle.silt_device.specs.Lives.{filled}
+use Rattle.silt_device.proofs.Common.{◌≡◌, ℕ, ◌<◌, ◌≤◌, true, false, get_or, filled}
 use Rattle.silt_device.proofs.memory.fill_pending.Given as goal
 
 abbrev pub invariant-loop-i : goal.invariant-loop-i

@@ -1,5 +1,4 @@
-use Rattle.std.proofs.Common.{◌≤◌, ◌+◌, length, slice_range, ℕ, ap, rules, arith, sym, ◌∙◌}
-use Rattle.silt_device.specs.Buffered.{image_over}
+use Rattle.silt_device.proofs.Common.{◌≤◌, ◌+◌, length, slice_range, ℕ, ap, rules, arith, sym, ◌∙◌, image_over}
 use Rattle.silt_device.proofs.Freeing.{all_held, all_laid}
 use Rattle.silt_device.proofs.Waiting.{fits_inner, size_over_all}
 use Rattle.silt_device.proofs.buffered_disk.BufferedDiskDisk.read.Goals as goal

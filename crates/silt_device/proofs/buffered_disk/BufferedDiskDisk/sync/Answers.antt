@@ -1,12 +1,9 @@
-use Rattle.std.proofs.Common.{◌≡◌, rules, arith, refl, sym, ◌∙◌, inl, inr}
-use Rattle.silt_disk.proofs.Costs.{made_both}
+use Rattle.silt_device.proofs.Common.{◌≡◌, rules, arith, refl, sym, ◌∙◌, inl, inr, made_both, content_over_all, size}
 use Rattle.silt_device.proofs.Freeing.{empty_thrice, freed_makes, freed_owes, freed_sizes, freed_thrice, frees_empty, frees_none, frees_out, not_freed, owed_thrice, settles_over_all, AreEmpty}
 use Rattle.silt_device.proofs.Gathering.{gathers_so}
 use Rattle.silt_device.proofs.Waiting.{size_over_all, stays_settles}
-use Rattle.silt_device.specs.Buffered.{content_over_all}
-use Rattle.silt_disk.specs.Disk.{size}
-use Rattle.silt_device.proofs.buffered_disk.BufferedDiskDisk.sync.Goals as goal
 use Rattle.silt_device.proofs.buffered_disk.BufferedDiskDisk.sync.Goals.{then-not-is_last_empty+in_default, else-not-is_last_empty}
+use Rattle.silt_device.proofs.buffered_disk.BufferedDiskDisk.sync.Goals as goal
 
 pub loop-turn-init : goal.loop-turn-init
 loop-turn-init g c = record { frees = frees_none _ _ c.self.invariant; upto = omega arith; calls = refl }

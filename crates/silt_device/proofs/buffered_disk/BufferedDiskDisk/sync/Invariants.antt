@@ -1,4 +1,4 @@
-use Rattle.std.proofs.Common.{◌≡◌, ◌≤◌}
+use Rattle.silt_device.proofs.Common.{◌≡◌, ◌≤◌}
 use Rattle.silt_device.proofs.Freeing.{Frees}
 use Rattle.silt_device.proofs.buffered_disk.BufferedDiskDisk.sync.Given as goal
 

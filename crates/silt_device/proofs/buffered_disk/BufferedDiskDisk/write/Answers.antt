@@ -1,13 +1,10 @@
-use Rattle.std.proofs.Common.{◌≡◌, ◌≤◌, ◌+◌, IsTrue, length, rules, arith, refl, sym, ap, ◌∙◌}
-use Rattle.silt_disk.specs.Disk.{size}
-use Rattle.silt_disk.proofs.Costs.{made_both}
-use Rattle.silt_device.specs.Buffered.{takes, to_free}
+use Rattle.silt_device.proofs.Common.{◌≡◌, ◌≤◌, ◌+◌, IsTrue, length, rules, arith, refl, sym, ap, ◌∙◌, size, made_both, takes, to_free}
 use Rattle.silt_device.proofs.Freeing.{appended_owes, appended_places, appended_tears, appended_writes, brought_places, freed_makes, freed_sizes, frees_empty, frees_none, frees_out}
 use Rattle.silt_device.proofs.Freeing.{tears_over_all, way_made, way_none, way_owes, way_passed, way_stays, way_unwritten, passes_appended, passes_written, writes_over_all}
 use Rattle.silt_device.proofs.Gathering.{gathers_so}
 use Rattle.silt_device.proofs.Waiting.{fits_inner, size_over_all, stays_tears, stays_writes}
-use Rattle.silt_device.proofs.buffered_disk.BufferedDiskDisk.write.Goals as goal
 use Rattle.silt_device.proofs.buffered_disk.BufferedDiskDisk.write.Goals.{then-not-is_last_empty+in_default, else-not-is_last_empty}
+use Rattle.silt_device.proofs.buffered_disk.BufferedDiskDisk.write.Goals as goal
 
 pub loop-turn-init : goal.loop-turn-init
 loop-turn-init g c = record {

@@ -1,6 +1,4 @@
-use Rattle.std.proofs.Common.{◌≡◌, ℕ, List, length, get_or, slice_range, rules, refl, sym, ◌∙◌, ap}
-use Rattle.std.proofs.lemmas.List.{with_items_is}
-use Rattle.silt_disk.specs.Disk.{splice}
+use Rattle.silt_device.proofs.Common.{◌≡◌, ℕ, List, length, get_or, slice_range, rules, refl, sym, ◌∙◌, ap, with_items_is, splice}
 use Rattle.silt_device.proofs.Marked.{settled_all}
 use Rattle.silt_device.proofs.memory.MemDisk.settle.Goals as goal
 

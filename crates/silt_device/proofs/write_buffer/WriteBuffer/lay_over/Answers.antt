@@ -1,5 +1,4 @@
-use Rattle.std.proofs.Common.{rules, ◌≡◌, ◌+◌, ◌<◌, length, sym, subst}
-use Rattle.silt_device.specs.Buffered.{LaidOver}
+use Rattle.silt_device.proofs.Common.{rules, ◌≡◌, ◌+◌, ◌<◌, length, sym, subst, LaidOver}
 use Rattle.silt_device.proofs.Waiting.{laid_there}
 use Rattle.silt_device.proofs.write_buffer.WriteBuffer.lay_over.Goals as goal
 
