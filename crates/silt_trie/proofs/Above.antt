@@ -1,10 +1,7 @@
 -- Lemmas on keys in rising order.
 use Rattle.silt_trie.proofs.Common.{◌≡◌, ℕ, ◌+◌, ◌-◌, ◌^◌, ◌<◌, ◌≤◌, true, List, [], ◌∷◌, ◌++◌, length, get_or, Option, Some, None, refl, sym, ap, ◌∙◌, subst, arith, Ordering, is_lt, Less}
-use Rattle.silt_trie.proofs.Common.{get_or_push, length_push, slice_cmp, Key, Building, HasGroups, IsBuildingOf, group_of, group_under_way, Follows, IsCodable, bytes_of, cases_lt}
-use Rattle.std.proofs.Common.{nat_cmp}
-use Rattle.std.proofs.lemmas.List.{append_assoc, map-append}
-use Rattle.std.proofs.lemmas.List.Elements.{All-push}
-use Rattle.silt_trie.specs.Building.{EndWith, IsHeldBuilding, MayFollow}
+use Rattle.silt_trie.proofs.Common.{get_or_push, length_push, slice_cmp, Key, Follows, IsCodable, bytes_of, cases_lt, nat_cmp, append_assoc, map-append, All-push}
+use Rattle.silt_trie.specs.Building.{Building, HasGroups, IsBuildingOf, group_of, group_under_way, EndWith, IsHeldBuilding, MayFollow}
 use Rattle.silt_trie.specs.declared.trie_builder.Groups.TheInside.{Inside}
 use Rattle.silt_trie.proofs.Codes.{bytes_at, length-bytes_of}
 use Rattle.silt_trie.proofs.Built.{ComesTo}

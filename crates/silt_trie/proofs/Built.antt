@@ -1,7 +1,7 @@
 -- Lemmas on a trie that is built from keys one after the other.
-use Rattle.silt_trie.proofs.Common.{◌≡◌, ℕ, ◌+◌, ◌-◌, ◌*◌, ◌^◌, ◌<◌, ◌≤◌, List, [], ◌∷◌, ◌++◌, length, Option, None, refl, sym, ap, ◌∙◌, take, arith, All-append, Key, Building, HasGroups}
-use Rattle.silt_trie.proofs.Common.{IsBuildingOf, group_of, group_under_way, trie_in, IsCodable, trie_code, Grows, bytes_of, IsMadeOf, MarkedCode, grouped_code, mark_behind, marks_of, Mark}
-use Rattle.std.proofs.Common.{append-nil, length-append, take_all}
+use Rattle.silt_trie.proofs.Common.{◌≡◌, ℕ, ◌+◌, ◌-◌, ◌*◌, ◌^◌, ◌<◌, ◌≤◌, List, [], ◌∷◌, ◌++◌, length, Option, None, refl, sym, ap, ◌∙◌, take, arith, All-append, Key, IsCodable, trie_code, Grows}
+use Rattle.silt_trie.proofs.Common.{bytes_of, IsMadeOf, MarkedCode, grouped_code, mark_behind, marks_of, Mark, append-nil, length-append, take_all}
+use Rattle.silt_trie.specs.Building.{Building, HasGroups, IsBuildingOf, group_of, group_under_way, trie_in}
 use Rattle.silt_trie.proofs.Codes.{length-bytes_of}
 use Rattle.silt_trie.proofs.Gathered.{codable_none}
 use Rattle.silt_trie.proofs.Growing.{grows_more}

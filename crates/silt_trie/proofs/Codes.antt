@@ -1,9 +1,7 @@
 -- Lemmas on the code of a trie.
-use Rattle.silt_trie.proofs.Common.{◌≡◌, ℕ, suc, ◌+◌, ◌-◌, ◌<◌, ◌≤◌, List, [], ◌++◌, length, take, drop, get_or, refl, ap, ◌∙◌, inl, inr, arith, length-drop, cases_lt, BeginsWithCode}
-use Rattle.silt_trie.proofs.Common.{bit_of, with_bit, trie_code, Follows, IsCodable, StandsAt, bytes_of, Key}
-use Rattle.std.proofs.Common.{◌⊎◌}
-use Rattle.std.proofs.lemmas.List.{append_assoc, get_or-take, get_or-drop, take-map, drop-map, get_or-map, length-map}
-use Rattle.silt_gamma.specs.Gamma.{gamma_code}
+use Rattle.silt_trie.proofs.Common.{◌≡◌, ℕ, suc, ◌+◌, ◌-◌, ◌<◌, ◌≤◌, List, [], ◌++◌, length, take, drop, get_or, refl, ap, ◌∙◌, inl, inr, arith, length-drop, cases_lt, BeginsWithCode, bit_of}
+use Rattle.silt_trie.proofs.Common.{with_bit, trie_code, Follows, IsCodable, StandsAt, bytes_of, Key, ◌⊎◌, append_assoc, get_or-take, get_or-drop, take-map, drop-map, get_or-map, length-map}
+use Rattle.silt_trie.proofs.Common.{gamma_code}
 use Rattle.silt_trie.specs.Code.{code_within}
 use Rattle.silt_trie.proofs.Order.{not_tied}
 use Rattle.silt_trie.proofs.Sides.{divides}

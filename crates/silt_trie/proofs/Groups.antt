@@ -1,10 +1,8 @@
 -- Lemmas on keys whose groups come one after the other.
 use Rattle.silt_trie.proofs.Common.{◌≡◌, ℕ, zero, suc, ◌+◌, ◌-◌, ◌*◌, ◌^◌, ◌<◌, ◌≤◌, List, [], ◌∷◌, ◌++◌, length, take, refl, sym, ap, ◌∙◌, inl, inr, arith, cases_eq, cases_lt, All-append}
-use Rattle.silt_trie.proofs.Common.{pow-succ', take-append-add, bit_of, with_bit, trie_code, grouped_code, marks_of, number_of_bits, prefix_of}
-use Rattle.std.proofs.Common.{◌==◌, All, pow-add}
-use Rattle.std.proofs.lemmas.Bool.{eqb-true}
-use Rattle.std.proofs.lemmas.List.{append_assoc, append-nil, length-append, take_all, take-append-le}
-use Rattle.std.proofs.lemmas.List.Elements.{All-filter, All-head, All-tail, filter-append, filter_passes}
+use Rattle.silt_trie.proofs.Common.{pow-succ', bit_of, with_bit, trie_code, grouped_code, marks_of, number_of_bits, prefix_of, ◌==◌, All, pow-add, eqb-true, append_assoc, append-nil}
+use Rattle.silt_trie.proofs.Common.{length-append, take_all, take-append-le, All-filter, All-head, All-tail, filter-append, filter_passes}
+use Rattle.std.proofs.Math.Seq.{take-append-add}
 use Rattle.silt_trie.proofs.Codes.{short_code}
 use Rattle.silt_trie.proofs.KeyBits.{bit_small}
 use Rattle.silt_trie.proofs.MarkedKeys.{length-marks_of, length-prefix_of, number_small, prefix_bits}

@@ -1,6 +1,5 @@
 -- Lemmas on lists to which more is appended.
-use Rattle.silt_trie.proofs.Common.{◌≡◌, List, [], ◌++◌, sym, Grows}
-use Rattle.std.proofs.Common.{append-nil, append_assoc}
+use Rattle.silt_trie.proofs.Common.{◌≡◌, List, [], ◌++◌, sym, Grows, append-nil, append_assoc}
 
 -- nothing was appended
 pub grows_none : {X : Type 0} (old : List X) → Grows old old

@@ -1,7 +1,7 @@
 -- Lemmas on the bits of keys.
 use Rattle.silt_trie.proofs.Common.{◌≡◌, ℕ, zero, suc, ◌+◌, ◌-◌, ◌*◌, ◌/◌, ◌%◌, ◌^◌, ◌<◌, List, [], ◌∷◌, length, get_or, ap, inl, inr, arith, get_or_append_left, get_or-append-add, cases_lt}
-use Rattle.silt_trie.proofs.Common.{mod_below, low_bits, bits_of, length-low_bits, bit_of}
-use Rattle.std.proofs.Common.{bit_and}
+use Rattle.silt_trie.proofs.Common.{mod_below, low_bits, bits_of, bit_of, bit_and}
+use Rattle.silt_gamma.proofs.BitLists.{length-low_bits}
 use Rattle.std.proofs.lemmas.Nat.Bits.{shr_and_one}
 
 -- a bit of a number

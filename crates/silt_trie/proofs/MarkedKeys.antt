@@ -1,15 +1,12 @@
 -- Lemmas on marks.
-use Rattle.silt_trie.proofs.Common.{◌≡◌, ℕ, zero, suc, ◌+◌, ◌-◌, ◌*◌, ◌^◌, ◌<◌, ◌≤◌, min, max, List, [], ◌∷◌, ◌++◌, length, take, drop, get_or, Option, Some, refl, sym, ap, ◌∙◌, inl, inr}
-use Rattle.silt_trie.proofs.Common.{arith, length-drop, get_or-append-add, take-append-add, cases_lt, le-leb, lt-leb, pow-succ', bit_of, with_bit, trie_code, IsCodable, StandsAt, prefix_of}
-use Rattle.silt_trie.proofs.Common.{number_of_bits, grouped_code, marks_of, mark_behind, skip_levels, skips_of, MarkedCode, IsMadeOf, bytes_of, Key, Mark}
-use Rattle.std.proofs.Common.{flat_map}
-use Rattle.std.proofs.lemmas.List.{append_assoc, append-nil, length-append, get_or_default, get_or-take, get_or-drop}
+use Rattle.silt_trie.proofs.Common.{◌≡◌, ℕ, zero, suc, ◌+◌, ◌-◌, ◌*◌, ◌^◌, ◌<◌, ◌≤◌, min, max, List, [], ◌∷◌, ◌++◌, length, take, drop, get_or, Option, Some, refl, sym, ap, ◌∙◌, inl, inr, arith}
+use Rattle.silt_trie.proofs.Common.{length-drop, get_or-append-add, cases_lt, le-leb, lt-leb, pow-succ', bit_of, with_bit, trie_code, IsCodable, StandsAt, prefix_of, number_of_bits, grouped_code}
+use Rattle.silt_trie.proofs.Common.{marks_of, mark_behind, skip_levels, skips_of, MarkedCode, IsMadeOf, bytes_of, Key, Mark, flat_map, append_assoc, append-nil, length-append, get_or_default}
+use Rattle.silt_trie.proofs.Common.{get_or-take, get_or-drop, drop_of_length-le, AreBits, GroupsLaw, prefixes, sub_keys, head_code, MarkLaw, IsPlaceBetween}
+use Rattle.std.proofs.Math.Seq.{take-append-add, drop-append_seam}
 use Rattle.std.proofs.lemmas.Grind.{flat_map-append}
 use Rattle.std.proofs.lemmas.List.Folds.{flat_map-map}
-use Rattle.std.proofs.Math.Seq.{drop-append_seam}
-use Rattle.std.proofs.Math.ListN.{drop_of_length-le}
 use Rattle.std.proofs.Math.Pow.{pow_mono}
-use Rattle.silt_trie.specs.Marks.{AreBits, GroupsLaw, prefixes, sub_keys, head_code, MarkLaw, IsPlaceBetween}
 use Rattle.silt_trie.proofs.KeyBits.{bit_small}
 use Rattle.silt_trie.proofs.Codes.{short_code, split_code, left_within, length_rights, stands_left, stands_right, bytes_lefts, bytes_rights}
 use Rattle.silt_trie.proofs.Sides.{divides, lefts_codable, rights_codable}

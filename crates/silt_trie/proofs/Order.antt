@@ -1,16 +1,10 @@
 -- Lemmas on the order of keys, by bytes and by bits.
-use Rattle.silt_trie.proofs.Common.{◌≡◌, ℕ, zero, suc, ◌*◌, ◌/◌, ◌%◌, ◌^◌, ◌<◌, ◌≤◌, true, List, [], ◌∷◌, ◌++◌, length, get_or, replicate, refl, sym, ap, ◌∙◌, inl, inr, arith, Ordering}
-use Rattle.silt_trie.proofs.Common.{Less, get_or_append_left, cases_lt, cases_order, ne_eqb, mod_below, mul-le-mul_right, pow-succ', slice_cmp, low_bits, bits_of, length-low_bits, bit_of}
-use Rattle.silt_trie.proofs.Common.{AgreeIn, Follows}
-use Rattle.std.proofs.Common.{ltb, Equal, Greater}
-use Rattle.std.proofs.lemmas.List.{ext_get_or}
-use Rattle.std.proofs.lemmas.Bool.{lt-ltb, le-ltb, ltb-true}
+use Rattle.silt_trie.proofs.Common.{◌≡◌, ℕ, zero, suc, ◌*◌, ◌/◌, ◌%◌, ◌^◌, ◌<◌, ◌≤◌, true, List, [], ◌∷◌, ◌++◌, length, get_or, replicate, refl, sym, ap, ◌∙◌, inl, inr, arith, Ordering, Less}
+use Rattle.silt_trie.proofs.Common.{get_or_append_left, cases_lt, cases_order, ne_eqb, mod_below, mul-le-mul_right, pow-succ', slice_cmp, low_bits, bits_of, bit_of, AgreeIn, Follows, ltb, Equal}
+use Rattle.silt_trie.proofs.Common.{Greater, ext_get_or, lt-ltb, le-ltb, ltb-true, div_below, pow_pos, div-add-mod', mod-eq_of_lt, nat_cmp, OrderLaw, GroupLaw}
+use Rattle.silt_gamma.proofs.BitLists.{length-low_bits, length-bits_of, low_bits_mod}
 use Rattle.std.proofs.lemmas.Cmp.{tied_itself, nat_cmp_total, nat_list_cmp_total}
-use Rattle.std.proofs.lemmas.Nat.{div_below, pow_pos, div-add-mod'}
-use Rattle.std.proofs.Math.Nat.{mod-eq_of_lt}
-use Rattle.std.specs.Ordering.{nat_cmp, ordering_then}
-use Rattle.silt_gamma.proofs.BitLists.{length-bits_of, low_bits_mod}
-use Rattle.silt_trie.specs.Code.{OrderLaw, GroupLaw}
+use Rattle.std.specs.Ordering.{ordering_then}
 use Rattle.silt_trie.proofs.KeyBits.{bit_small}
 
 -- what `nat_cmp` means for two numbers: the first is lower

@@ -1,7 +1,6 @@
 -- Lemmas on codes that are still to be skipped.
-use Rattle.silt_trie.proofs.Common.{◌≡◌, ℕ, zero, suc, ◌+◌, ◌-◌, ◌<◌, ◌≤◌, min, List, ◌++◌, length, get_or, ap, ◌∙◌, inl, inr, arith, length-set, set, cases_lt, le-leb, lt-leb}
-use Rattle.silt_trie.proofs.Common.{BeginsWithCode, trie_code, with_bit, IsCodable}
-use Rattle.std.proofs.Common.{leb, get_or-set_other, get_or-set_same}
+use Rattle.silt_trie.proofs.Common.{◌≡◌, ℕ, zero, suc, ◌+◌, ◌-◌, ◌<◌, ◌≤◌, min, List, ◌++◌, length, get_or, ap, ◌∙◌, inl, inr, arith, length-set, set, cases_lt, le-leb, lt-leb, BeginsWithCode}
+use Rattle.silt_trie.proofs.Common.{trie_code, with_bit, IsCodable, leb, get_or-set_other, get_or-set_same}
 use Rattle.std.specs.Int.{from_bool}
 use Rattle.silt_trie.proofs.Codes.{short_code, deep_few, node, left_within, length_rights}
 use Rattle.silt_trie.proofs.Sides.{lefts_codable, rights_codable}

@@ -1,8 +1,7 @@
 -- Lemmas on a builder that makes its trie.
-use Rattle.silt_trie.proofs.Common.{◌≡◌, ℕ, List, length, true, Option, None, Some, refl, subst, take_at, Building, IsBuildingOf, trie_in, Grows, IsMadeOf, MarkedCode, Cut}
-use Rattle.std.proofs.Common.{IfSome, is_some, false, arith}
+use Rattle.silt_trie.proofs.Common.{◌≡◌, ℕ, List, length, true, Option, None, Some, refl, subst, take_at, Grows, IsMadeOf, MarkedCode, Cut, IfSome, is_some, false, arith}
+use Rattle.silt_trie.specs.Building.{Building, IsBuildingOf, trie_in, BuilderState, IsTrieOf, opened}
 use Rattle.std.specs.Option.{option_map}
-use Rattle.silt_trie.specs.Building.{BuilderState, IsTrieOf, opened}
 
 -- what was appended is cut off
 pub opened_again : (old new : Building) (bits marks : ℕ) → new ≡ record old { code = new.code; marks = new.marks } → Grows old.code new.code × Grows old.marks new.marks

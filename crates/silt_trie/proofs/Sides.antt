@@ -1,8 +1,6 @@
 -- Lemmas on the two sides of keys at a bit.
-use Rattle.silt_trie.proofs.Common.{◌≡◌, ℕ, zero, suc, ◌+◌, ◌<◌, ◌≤◌, List, [], ◌∷◌, length, take, drop, get_or, refl, sym, ap, ◌∙◌, inl, inr, arith, length-drop, cases_eq, cases_lt}
-use Rattle.silt_trie.proofs.Common.{cases_order, ne_eqb, bit_of, with_bit, AgreeIn, Follows, IsCodable}
-use Rattle.std.proofs.Common.{Bool, cond, add-one, get_or-take, get_or-drop, length-take-le}
-use Rattle.std.proofs.lemmas.Bool.{eq-eqb}
+use Rattle.silt_trie.proofs.Common.{◌≡◌, ℕ, zero, suc, ◌+◌, ◌<◌, ◌≤◌, List, [], ◌∷◌, length, take, drop, get_or, refl, sym, ap, ◌∙◌, inl, inr, arith, length-drop, cases_eq, cases_lt, cases_order}
+use Rattle.silt_trie.proofs.Common.{ne_eqb, bit_of, with_bit, AgreeIn, Follows, IsCodable, Bool, cond, add-one, get_or-take, get_or-drop, length-take-le, eq-eqb}
 use Rattle.silt_trie.proofs.KeyBits.{bit_small}
 use Rattle.silt_trie.proofs.Order.{below_at}
 

@@ -1,9 +1,8 @@
 -- Lemmas on skips over code.
 use Rattle.silt_trie.proofs.Common.{◌≡◌, ℕ, zero, suc, ◌+◌, ◌-◌, ◌/◌, ◌^◌, ◌<◌, ◌≤◌, min, List, [], ◌∷◌, ◌++◌, length, take, drop, replicate, Some, None, refl, sym, ap, ◌∙◌, arith, take_at}
-use Rattle.silt_trie.proofs.Common.{pow-succ', Key, IsCodable, trie_code, with_bit, bytes_of}
-use Rattle.std.proofs.Common.{pow_pos}
-use Rattle.std.proofs.lemmas.List.{append-nil, drop_at, length-append, length-replicate, replicate-append-replicate, take-replicate, drop-replicate}
-use Rattle.silt_trie.specs.Marks.{AreSkipsInto, skip_over, skips_of}
+use Rattle.silt_trie.proofs.Common.{pow-succ', Key, IsCodable, trie_code, with_bit, bytes_of, pow_pos, append-nil, drop_at, length-append, length-replicate, replicate-append-replicate}
+use Rattle.silt_trie.proofs.Common.{take-replicate, drop-replicate, AreSkipsInto, skip_over}
+use Rattle.silt_trie.specs.Marks.{skips_of}
 use Rattle.silt_trie.proofs.Codes.{bytes_lefts, bytes_rights, left_within, short_code}
 use Rattle.silt_trie.proofs.Groups.{length_sides}
 

@@ -1,9 +1,8 @@
-use Rattle.silt_trie.proofs.Common.{◌≡◌, [], ◌++◌, sym, ap, ◌∙◌, rules, arith, on_ok_weaker, bytes_of, trie_code}
-use Rattle.std.proofs.Common.{append-nil}
+use Rattle.silt_trie.proofs.Common.{◌≡◌, [], ◌++◌, sym, ap, ◌∙◌, rules, arith, on_ok_weaker, bytes_of, trie_code, append-nil}
 use Rattle.silt_trie.proofs.Codes.{short_code, deep_code, left_within, bytes_lefts, bytes_rights, length-bytes_of, written}
 use Rattle.silt_trie.proofs.Sides.{lefts_codable, rights_codable}
-use Rattle.silt_trie.proofs.code_of_keys.+write_code.Goals as goal
 use Rattle.silt_trie.proofs.code_of_keys.+write_code.Goals.{then-keys-lt2-via-then-keys-lt2, then-keys-lt2-via-else-keys-lt2+then-depth-ge-KEY_BITS}
+use Rattle.silt_trie.proofs.code_of_keys.+write_code.Goals as goal
 
 pub returns-then-keys-lt2-clause-ok : goal.returns-then-keys-lt2-clause-ok
 returns-then-keys-lt2-clause-ok t c =

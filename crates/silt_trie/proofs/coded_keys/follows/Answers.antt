@@ -1,8 +1,7 @@
-use Rattle.silt_trie.proofs.Common.{arith}
+use Rattle.silt_trie.proofs.Common.{arith, false≢true}
 use Rattle.silt_trie.proofs.Order.{follows_test, not_tied, not_alike}
-use Rattle.std.proofs.lemmas.Bool.{false≢true}
-use Rattle.silt_trie.proofs.coded_keys.follows.Goals as goal
 use Rattle.silt_trie.proofs.coded_keys.follows.Goals.{then-common-ge-KEY_BITS-via-then-common-ge-KEY_BITS, then-common-ge-KEY_BITS-via-else-common-ge-KEY_BITS+then-common-depth}
+use Rattle.silt_trie.proofs.coded_keys.follows.Goals as goal
 
 pub returns : goal.returns
 returns c =

@@ -1,8 +1,8 @@
 use Rattle.silt_trie.proofs.Common.{◌-◌, ◌∙◌, sym, inl, inr, arith, with_bit}
 use Rattle.silt_trie.proofs.Codes.{only_place, node, left_within, length_rights, stands_left, stands_right}
 use Rattle.silt_trie.proofs.Sides.{lefts_codable, rights_codable}
-use Rattle.silt_trie.proofs.key_place.+locate_from.Goals as goal
 use Rattle.silt_trie.proofs.key_place.+locate_from.Goals.{then-count-lt2-via-then-count-lt2, then-count-lt2-via-else-count-lt2+then-depth-ge-KEY_BITS}
+use Rattle.silt_trie.proofs.key_place.+locate_from.Goals as goal
 
 pub returns-then-count-lt2-clause-place : goal.returns-then-count-lt2-clause-place
 returns-then-count-lt2-clause-place t c = λ m keys i rest codable count is skips stands. elim c.then-count-lt2.branch [

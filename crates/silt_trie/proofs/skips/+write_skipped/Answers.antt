@@ -2,8 +2,8 @@ use Rattle.silt_trie.proofs.Common.{◌≡◌, ℕ, ◌+◌, ◌-◌, ◌^◌, �
 use Rattle.silt_trie.proofs.Codes.{deep_few, bytes_lefts, bytes_rights, length-bytes_of, written}
 use Rattle.silt_trie.proofs.Sides.{lefts_codable, rights_codable}
 use Rattle.silt_trie.proofs.SkipsOf.{code_of_few, left_small, skips_written, zeros_end, zeros_few}
-use Rattle.silt_trie.proofs.skips.+write_skipped.Goals as goal
 use Rattle.silt_trie.proofs.skips.+write_skipped.Goals.{then-keys-lt2-via-then-keys-lt2, then-keys-lt2-via-else-keys-lt2+then-depth-ge-KEY_BITS}
+use Rattle.silt_trie.proofs.skips.+write_skipped.Goals as goal
 
 pub returns-then-keys-lt2-clause-code : goal.returns-then-keys-lt2-clause-code
 returns-then-keys-lt2-clause-code t c = elim c.then-keys-lt2.branch [

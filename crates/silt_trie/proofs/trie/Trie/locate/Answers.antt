@@ -1,6 +1,4 @@
-use Rattle.silt_trie.proofs.Common.{◌++◌, sym, ap, ◌∙◌, arith, trie_code}
-use Rattle.std.proofs.Common.{take_all}
-use Rattle.silt_trie.specs.Coded.{Coded}
+use Rattle.silt_trie.proofs.Common.{◌++◌, sym, ap, ◌∙◌, arith, trie_code, take_all, Coded}
 use Rattle.silt_trie.proofs.trie.Trie.locate.Goals as goal
 
 pub returns-clause-place : goal.returns-clause-place

@@ -1,8 +1,9 @@
-use Rattle.silt_trie.proofs.Common.{◌+◌, ◌^◌, ◌<◌, List, refl, ap, ◌∙◌, arith, Key, Building}
+use Rattle.silt_trie.proofs.Common.{◌+◌, ◌^◌, ◌<◌, List, refl, ap, ◌∙◌, arith, Key}
+use Rattle.silt_trie.specs.Building.{Building}
 use Rattle.silt_trie.proofs.Above.{building_of, built_push, held_push}
 use Rattle.silt_trie.proofs.Built.{ComesTo, comes_no_further, comes_to}
-use Rattle.silt_trie.proofs.trie_builder.Groups.push.Goals as goal
 use Rattle.silt_trie.proofs.trie_builder.Groups.push.Goals.{After-self-2-1, then-first-next+in_ok-code_groups, else-first-next}
+use Rattle.silt_trie.proofs.trie_builder.Groups.push.Goals as goal
 
 -- the groups before the key's are coded then
 comes : (c : After-self-2-1) → ComesTo c.group_of-next.result (building_of c.self.inside) (building_of c.if-first-next.self-inside)
