@@ -4,3 +4,4 @@ pub mod Serving
 mod Servings
 pub mod Shares
 mod Spending
+pub mod Common

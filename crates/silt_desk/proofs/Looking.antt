@@ -1,8 +1,8 @@
 -- A look at a store is a look at some store.
-use Rattle.std.proofs.Common.{ℕ, List, Ok, Err, OnOk, IfErr, Result}
+use Rattle.silt_desk.proofs.Common.{Ok, Err, OnOk, IfErr, Result, CoreState}
+use Rattle.std.proofs.Common.{ℕ, List}
 use Rattle.silt_desk.specs.Views.{GaveBytes, GaveFault}
 use Rattle.silt_disk.specs.declared.disk.Disk.{Ghosts}
-use Rattle.silt_store_set.specs.CoreState.{CoreState}
 use Rattle.silt_view.specs.Views.{GivesBytes, GivesFault}
 use Rattle.silt_view.specs.declared.viewed.ReadFault.{ReadFault}
 

@@ -1,27 +1,17 @@
 -- A call at a desk, from what the store does and what is noted.
-use Rattle.std.proofs.Common.{◌≡◌, ℕ, ◌+◌, Bool, true, false, IsTrue, List, Option, Some, None, Ok, Err, Result, IfSome, arith, rules, refl, ap}
+use Rattle.silt_desk.proofs.Common.{◌≡◌, ◌+◌, Bool, true, false, IsTrue, Option, Some, None, Ok, Err, Result, IfSome, arith, rules, refl, ap, Map, CoreState, Cause, Does, Durable, map_of, Counts}
+use Rattle.silt_desk.proofs.Common.{Step, accepted_command, is_fault, plain, change_reply, flush_reply, get_reply, progress_reply, swap_reply, Event, Swap, Refusal, Reply, RecordedCall}
+use Rattle.silt_desk.proofs.Common.{accepted_by, plain_answer, SeatState, Totals, counted, NoneWaits, SeenStep, SeenStore, seen}
+use Rattle.std.proofs.Common.{ℕ, List}
 use Rattle.silt_disk.specs.declared.disk.Disk.{Ghosts}
-use Rattle.silt_event.specs.Commands.{Map}
 use Rattle.silt_event.specs.declared.progress.Progress.{Progress as ProgressOf}
 use Rattle.silt_store_set.proofs.Runs.{does_step}
-use Rattle.silt_store_set.specs.CoreState.{CoreState, Cause, Does, Durable, map_of}
-use Rattle.silt_event.specs.Events.{Counts, Step, accepted_command, is_fault, plain}
-use Rattle.silt_store_set.specs.Replies.{change_reply, flush_reply, get_reply, progress_reply, swap_reply}
-use Rattle.silt_event.specs.declared.event.Event.{Event}
-use Rattle.silt_event.specs.declared.event.Event.TheVariants.{Swap}
-use Rattle.silt_event.specs.declared.refusal.Refusal.{Refusal}
 use Rattle.silt_event.specs.declared.refusal.Refusal.TheVariants.{Device, NoMemory, HistoryFull}
-use Rattle.silt_event.specs.declared.reply.Reply.{Reply}
 use Rattle.silt_event.specs.declared.reply.Reply.TheVariants.{Accepted, Acknowledged, Refused}
 use Rattle.silt_store_set.proofs.Keeps.{own_counts}
-use Rattle.silt_desk.specs.declared.call.RecordedCall.{RecordedCall}
 use Rattle.silt_desk.specs.declared.trace.Trace.{Ghosts as TraceOf}
 use Rattle.silt_desk.specs.DeskState.{CountsCalls, DeskState, Notes, Serves}
-use Rattle.silt_desk.specs.History.{accepted_by}
-use Rattle.silt_desk.specs.Notes.{plain_answer}
-use Rattle.silt_desk.specs.Seats.{SeatState, Totals, counted}
 use Rattle.std.specs.Option.{option_map}
-use Rattle.silt_desk.specs.Seeing.{NoneWaits, SeenStep, SeenStore, seen}
 use Rattle.silt_desk.proofs.Spending.{spends_by}
 
 -- ---- replies without their faults

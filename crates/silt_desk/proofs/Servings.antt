@@ -1,17 +1,11 @@
 -- Servings, from their openings, calls and crashes.
-use Rattle.std.proofs.Common.{◌≡◌, ℕ, zero, suc, ◌+◌, ◌≤◌, IsTrue, List, [], ◌∷◌, ◌++◌, length, Some, slice_get, refl, ap, ◌∙◌, subst, arith, rules}
-use Rattle.silt_disk.specs.Disk.{Content}
+use Rattle.silt_desk.proofs.Common.{◌≡◌, ◌+◌, ◌≤◌, IsTrue, ◌++◌, length, Some, slice_get, refl, ap, ◌∙◌, subst, arith, rules, Content, Command, Map, delete, map_after, put, setting, Counts}
+use Rattle.silt_desk.proofs.Common.{PlainReply, Step, accepted_command, acknowledged_after, acknowledged_by, Event, Put, Delete, Swap, map_of, RecordedCall, Replays, commands_of, replies_of}
+use Rattle.std.proofs.Common.{ℕ, zero, suc, List, [], ◌∷◌}
 use Rattle.silt_disk.proofs.Images.{shown_left}
 use Rattle.silt_disk.specs.declared.disk.Disk.{Ghosts}
-use Rattle.silt_event.specs.Commands.{Command, Map, delete, map_after, put, setting}
-use Rattle.silt_event.specs.Events.{Counts, PlainReply, Step, accepted_command, acknowledged_after, acknowledged_by}
-use Rattle.silt_event.specs.declared.event.Event.{Event}
-use Rattle.silt_event.specs.declared.event.Event.TheVariants.{Put, Delete, Swap}
 use Rattle.silt_event.specs.declared.reply.Reply.TheVariants.{Accepted, Acknowledged}
 use Rattle.silt_image.specs.Meaning.{image_map}
-use Rattle.silt_store_set.specs.CoreState.{map_of}
-use Rattle.silt_desk.specs.declared.call.RecordedCall.{RecordedCall}
-use Rattle.silt_desk.specs.History.{Replays, commands_of, replies_of}
 use Rattle.silt_desk.specs.Servings.{ComesAfter, FollowsLaw, HeldLaw, IsServing, ServingHistory, ServingsLaw, acceptance}
 
 module _ {D F : Type 0} (facts : Ghosts D F) where

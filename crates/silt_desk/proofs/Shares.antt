@@ -1,5 +1,5 @@
 -- A book and a share name no thread, so a reference to one may go to another thread, and one to a desk too.
-use Rattle.std.proofs.Common.{arith}
+use Rattle.silt_desk.proofs.Common.{arith}
 use mathlib.Core.List.{List, [], ◌∷◌}
 use Prim.Native.Nat.{ℕ, zero, suc}
 use base.Shift.{Keyless}
@@ -9,6 +9,8 @@ use denote.Struct.Struct.{Struct}
 use denote.Param.Send.{IsSend, IsSync, part_keyless, AllSync, sendable, view_sync, struct_sync, recorded_sync}
 use Rattle.std.specs.Sync.Ledger.{chain, row, Rule, book_owns, share_owns}
 use Rattle.std.specs.declared.sync.ledger.Ledger.{Ghosts}
+use Rattle.silt_store_set.proofs.store_core.Core.TheSendSync.{the_sync as core_sync}
+use Rattle.silt_desk.proofs.desk.Desk.TheSendSync.{the_send}
 use Rattle.silt_disk.specs.declared.disk.Disk as Disk
 use Rattle.silt_desk.specs.declared.trace.Trace as Trace
 use Rattle.silt_desk.specs.declared.seat.DeskId as DeskId
@@ -20,8 +22,6 @@ use Rattle.silt_desk.specs.contracts.seat.Ledgers as Ledgers
 use Rattle.silt_desk.specs.contracts.seat.Ledgers.TheInside as LedgersInside
 use Rattle.silt_desk.specs.contracts.seat.CallsOfLedger.TheImpl as calls
 use Rattle.silt_desk.specs.contracts.seat.AcceptedOfLedger.TheImpl as accepted
-use Rattle.silt_store_set.proofs.store_core.Core.TheSendSync.{the_sync as core_sync}
-use Rattle.silt_desk.proofs.desk.Desk.TheSendSync.{the_send}
 use Rattle.std.specs.contracts.sync.ledger.Book as Book
 use Rattle.std.specs.contracts.sync.ledger.Share as Share
 

@@ -1,23 +1,16 @@
 -- What a call costs, from what the store does.
-use Rattle.std.proofs.Common.{◌≡◌, ◌≢◌, ℕ, ◌+◌, ◌*◌, ◌≤◌, true, false, List, [], ◌∷◌, length, Some, None, inl, inr, refl, ap, sym, ◌∙◌, arith, rules}
+use Rattle.silt_desk.proofs.Common.{◌≡◌, ◌≢◌, ◌+◌, ◌*◌, ◌≤◌, true, false, length, Some, None, inl, inr, refl, ap, sym, ◌∙◌, arith, rules, MakesAtMost, Command, PlainReply, accepted_command}
+use Rattle.silt_desk.proofs.Common.{is_fault, plain, Event, Put, Delete, Swap, Flush, Get, Convert, Merge, Refusal, Reply, CoreState, Does, MakesRow, WritesRow, convert_due, is_finished}
+use Rattle.silt_desk.proofs.Common.{most_syncs, most_writes, some_wait, accepted_by, BatchCostLaw, SeenStore, Spends, batch_replies, failing, finished_by, seen, syncs_by, total_by, writes_by}
+use Rattle.std.proofs.Common.{ℕ, List, [], ◌∷◌}
 use Rattle.std.proofs.lemmas.Bool.{cases_Bool}
-use Rattle.silt_disk.specs.Disk.{MakesAtMost}
 use Rattle.silt_disk.specs.declared.disk.Disk.{Ghosts}
 use Rattle.silt_disk.proofs.Costs.{most_made, most_more, most_none}
 use Rattle.silt_manifest.specs.declared.body.Body.{Body}
-use Rattle.silt_event.specs.Commands.{Command}
-use Rattle.silt_event.specs.Events.{PlainReply, accepted_command, is_fault, plain}
-use Rattle.silt_event.specs.declared.event.Event.{Event}
-use Rattle.silt_event.specs.declared.event.Event.TheVariants.{Put, Delete, Swap, Flush, Get, Convert, Merge}
 use Rattle.silt_event.specs.declared.progress.Progress.{Progress as ProgressOf}
 use Rattle.silt_event.specs.declared.progress.Progress.TheVariants.{Idle, Moved, Finished}
-use Rattle.silt_event.specs.declared.refusal.Refusal.{Refusal}
-use Rattle.silt_event.specs.declared.reply.Reply.{Reply}
 use Rattle.silt_event.specs.declared.reply.Reply.TheVariants.{Accepted, Acknowledged, Found, Absent, Differs, Progress, Refused}
 use Rattle.silt_engine.specs.Costs.{step_syncs, step_writes}
-use Rattle.silt_store_set.specs.CoreState.{CoreState, Does, MakesRow, WritesRow, convert_due, is_finished, most_syncs, most_writes, some_wait}
-use Rattle.silt_desk.specs.History.{accepted_by}
-use Rattle.silt_desk.specs.Seeing.{BatchCostLaw, SeenStore, Spends, batch_replies, failing, finished_by, seen, syncs_by, total_by, writes_by}
 
 -- some commands wait or none do
 waits_most : (commands : List Command) → some_wait commands ≤ 1

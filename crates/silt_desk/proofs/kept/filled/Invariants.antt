@@ -1,4 +1,4 @@
-use Rattle.std.proofs.Common.{◌≡◌, ◌≤◌, take, length, vec_capacity}
+use Rattle.silt_desk.proofs.Common.{◌≡◌, ◌≤◌, take, length, vec_capacity}
 use Rattle.silt_desk.proofs.kept.filled.Given as goal
 
 -- the bytes so far are in the buffer, which has room for all of them

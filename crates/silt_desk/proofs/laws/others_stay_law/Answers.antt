@@ -1,4 +1,4 @@
-use Rattle.silt_desk.specs.TraceLaws.{others_stay_law}
+use Rattle.silt_desk.proofs.Common.{others_stay_law}
 use Rattle.silt_desk.proofs.laws.others_stay_law.Goals as goal
 
 pub returns : goal.returns

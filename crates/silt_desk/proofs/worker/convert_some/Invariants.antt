@@ -1,5 +1,4 @@
-use Rattle.std.proofs.Common.{◌≡◌, false}
-use Rattle.silt_store_set.specs.CoreState.{wants_convert}
+use Rattle.silt_desk.proofs.Common.{◌≡◌, false, wants_convert}
 use Rattle.silt_desk.specs.declared.worker.Turn.TheVariants as TurnOf
 use Rattle.silt_desk.proofs.worker.convert_some.Given as goal
 

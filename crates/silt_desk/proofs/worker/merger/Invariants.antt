@@ -1,4 +1,4 @@
-use Rattle.std.proofs.Common.{◌≡◌}
+use Rattle.silt_desk.proofs.Common.{◌≡◌}
 use Rattle.silt_desk.proofs.worker.merger.Given as goal
 
 -- the seat keeps its number

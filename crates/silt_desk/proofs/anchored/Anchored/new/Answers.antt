@@ -1,7 +1,6 @@
-use Rattle.std.proofs.Common.{◌∙◌, [], ap, subst, sym}
+use Rattle.silt_desk.proofs.Common.{◌∙◌, ap, subst, sym, seen, leads_none}
+use Rattle.std.proofs.Common.{[]}
 use Rattle.silt_desk.specs.Anchors.{LeadsFrom}
-use Rattle.silt_desk.specs.Seeing.{seen}
-use Rattle.silt_desk.specs.TraceLaws.{leads_none}
 use Rattle.silt_desk.proofs.anchored.Anchored.new.Goals as goal
 
 pub returns-clause-past : goal.returns-clause-past

@@ -1,7 +1,4 @@
-use Rattle.std.proofs.Common.{sym, ◌∙◌, ap}
-use Rattle.silt_desk.specs.CallLogs.{log_word}
-use Rattle.silt_desk.specs.History.{call}
-use Rattle.silt_desk.specs.Notes.{noted_event, reply_of}
+use Rattle.silt_desk.proofs.Common.{sym, ◌∙◌, ap, log_word, call, noted_event, reply_of}
 use Rattle.silt_desk.proofs.CallLogs.{adds_moves}
 use Rattle.silt_desk.proofs.call_log.CallView.append.Goals as goal
 

@@ -1,6 +1,5 @@
-use Rattle.std.proofs.Common.{◌≤◌, ap, subst, arith, length, List}
-use mathlib.Core.List.{IsPrefix}
-use Rattle.silt_desk.specs.declared.call.RecordedCall.{RecordedCall}
+use Rattle.silt_desk.proofs.Common.{◌≤◌, ap, subst, arith, length, IsPrefix, RecordedCall}
+use Rattle.std.proofs.Common.{List}
 use Rattle.silt_desk.proofs.CallLogs.{prefix_shorter}
 use Rattle.silt_desk.proofs.call_log.CallView.longer.Goals as goal
 

@@ -1,5 +1,4 @@
-use Rattle.std.proofs.Common.{◌∙◌, ap}
-use Rattle.silt_store_set.specs.Replies.{progress_reply}
+use Rattle.silt_desk.proofs.Common.{◌∙◌, ap, progress_reply}
 use Rattle.silt_desk.proofs.Serving.{progress_plain, keeps, serves}
 use Rattle.silt_desk.proofs.desk.Desk.convert.Goals as goal
 

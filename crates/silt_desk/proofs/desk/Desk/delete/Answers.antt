@@ -1,5 +1,4 @@
-use Rattle.std.proofs.Common.{◌∙◌, ap}
-use Rattle.silt_store_set.specs.Replies.{change_reply}
+use Rattle.silt_desk.proofs.Common.{◌∙◌, ap, change_reply}
 use Rattle.silt_desk.proofs.Serving.{change_plain, keeps, serves}
 use Rattle.silt_desk.proofs.desk.Desk.delete.Goals as goal
 

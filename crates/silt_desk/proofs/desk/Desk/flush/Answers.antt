@@ -1,5 +1,4 @@
-use Rattle.std.proofs.Common.{◌∙◌, ap}
-use Rattle.silt_store_set.specs.Replies.{flush_reply}
+use Rattle.silt_desk.proofs.Common.{◌∙◌, ap, flush_reply}
 use Rattle.silt_desk.proofs.Serving.{flush_plain, keeps, serves}
 use Rattle.silt_desk.proofs.desk.Desk.flush.Goals as goal
 

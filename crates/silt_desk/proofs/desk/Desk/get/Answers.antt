@@ -1,5 +1,4 @@
-use Rattle.std.proofs.Common.{◌∙◌, ap}
-use Rattle.silt_store_set.specs.Replies.{get_reply}
+use Rattle.silt_desk.proofs.Common.{◌∙◌, ap, get_reply}
 use Rattle.silt_desk.proofs.Serving.{get_plain, keeps, serves}
 use Rattle.silt_desk.proofs.desk.Desk.get.Goals as goal
 

@@ -1,5 +1,4 @@
-use Rattle.std.proofs.Common.{◌∙◌, ap}
-use Rattle.silt_store_set.specs.Replies.{swap_reply}
+use Rattle.silt_desk.proofs.Common.{◌∙◌, ap, swap_reply}
 use Rattle.silt_desk.proofs.Serving.{swap_plain, keeps, serves}
 use Rattle.silt_desk.proofs.desk.Desk.swap.Goals as goal
 

@@ -1,5 +1,4 @@
-use Rattle.silt_desk.specs.Seeing.{seen}
-use Rattle.silt_desk.specs.TraceLaws.{history_opens}
+use Rattle.silt_desk.proofs.Common.{seen, history_opens}
 use Rattle.silt_desk.proofs.kept.Kept.new.Goals as goal
 
 pub returns-clause-history : goal.returns-clause-history

@@ -1,5 +1,4 @@
-use Rattle.std.proofs.Common.{◌≡◌, ◌+◌, vec_len}
-use Rattle.silt_desk.specs.Seats.{calls_of, accepted_of}
+use Rattle.silt_desk.proofs.Common.{◌≡◌, ◌+◌, vec_len, calls_of, accepted_of}
 use Rattle.silt_desk.proofs.seat.Books.settle.Given as goal
 
 -- the parts and amounts of the seats taken out so far are joined

@@ -1,5 +1,5 @@
-use Rattle.std.proofs.Common.{◌≡◌, ℕ, ◌+◌, ◌<◌, ◌≤◌, Some, slice_get, vec_len, vec_capacity}
-use Rattle.silt_desk.specs.Seats.{fresh}
+use Rattle.silt_desk.proofs.Common.{◌≡◌, ◌+◌, ◌<◌, ◌≤◌, Some, slice_get, vec_len, vec_capacity, fresh}
+use Rattle.std.proofs.Common.{ℕ}
 use Rattle.silt_desk.proofs.seat.Ledgers.new.Given as goal
 
 -- each seat so far has one part of each ledger, and the rest has the others

@@ -1,5 +1,5 @@
-use Rattle.std.proofs.Common.{◌≡◌, ℕ, ◌<◌, ◌≤◌, Some, slice_get, vec_len, vec_capacity}
-use Rattle.silt_desk.specs.Seats.{unbooked}
+use Rattle.silt_desk.proofs.Common.{◌≡◌, ◌<◌, ◌≤◌, Some, slice_get, vec_len, vec_capacity, unbooked}
+use Rattle.std.proofs.Common.{ℕ}
 use Rattle.silt_desk.proofs.seat.Ledgers.unbooked.Given as goal
 
 -- each seat so far has its number
