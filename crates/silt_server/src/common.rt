@@ -178,20 +178,14 @@ impl<D: Viewed, T: Trace, N: DeskId + InboxId + LogId, G: Gate, R: Wait + Clock>
     ) -> Session<'b, D, T, N, R>
         ensures { (result.number ≡ number.now) × (result.settles_gets ≡ settles_gets) }
     {
-        Session {
+        let writer = WriterLink {
             rt: self.rt,
             alloc: self.alloc,
-            desk: self.desk,
-            writer: WriterLink {
-                rt: self.rt,
-                alloc: self.alloc,
-                inbox: self.inbox,
-                log: self.log,
-                slot,
-            },
-            number: number.get(),
-            settles_gets,
-        }
+            inbox: self.inbox,
+            log: self.log,
+            slot,
+        };
+        Session::new(self.desk, writer, number, settles_gets)
     }
 
     /// A view of the store.

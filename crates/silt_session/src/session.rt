@@ -4,6 +4,7 @@ ghost use Rattle.silt_session.specs.Requests.{requests_of};
 
 use crate::job::{Awaited, Job};
 use crate::job_log::{JobLog, LogId};
+use crate::session_number::SessionNumber;
 use crate::session_slots::SessionSlot;
 use crate::task::Task;
 use crate::unanswered::Unanswered;
@@ -31,8 +32,8 @@ pub struct Session<'a, D: Disk, T: Trace, N: DeskId + InboxId + LogId, R> {
     pub alloc: Global,
     pub desk: &'a Shared<D, T, N>,
     pub writer: WriterLink<'a, D, T, N, R>,
-    /// Its number, which no other session of the server has.
-    pub number: u64,
+    /// Its number, which no other session of the server has. Other crates cannot name it, so they get it from [`Session::new`] alone.
+    pub(crate) number: u64,
     /// Whether a get waits for a flush if a crash may take away what it shows.
     pub settles_gets: bool,
 }
@@ -78,5 +79,27 @@ impl<D: Disk, T: Trace, N: InboxId + LogId, R: Wait> WriterLink<'_, D, T, N, R> 
     {
         let awaited = self.send(tasks)?;
         awaited.wait(self.rt).ok_or(Unanswered::Lost)
+    }
+}
+
+impl<'a, D: Disk, T: Trace, N: DeskId + InboxId + LogId, R> Session<'a, D, T, N, R> {
+    /// The session of this number, at this desk and with this way to the writer. With `settles_gets` a get waits for a flush if a crash may
+    /// take away what it shows.
+    pub fn new(
+        desk: &'a Shared<D, T, N>,
+        writer: WriterLink<'a, D, T, N, R>,
+        number: &SessionNumber,
+        settles_gets: bool,
+    ) -> Session<'a, D, T, N, R>
+        ensures { (result.number ≡ number.now) × (result.settles_gets ≡ settles_gets) }
+    {
+        Session {
+            rt: writer.rt,
+            alloc: writer.alloc,
+            desk,
+            writer,
+            number: number.get(),
+            settles_gets,
+        }
     }
 }
